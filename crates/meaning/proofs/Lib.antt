@@ -1,0 +1,11 @@
+-- The laws of the definitions, and the theorems of this crate, gathered in `Theorems`.
+pub mod ListLaws
+pub mod OpenLaws
+pub mod Steps
+pub mod Kept
+pub mod Verdicts
+pub mod Trails
+pub mod Canonical
+pub mod Readings
+pub mod Singles
+pub mod Theorems

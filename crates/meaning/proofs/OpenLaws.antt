@@ -1,0 +1,179 @@
+-- Laws of lists of open sets: their members, what reducing leaves of them, and which holder sets meet them. Assumes nothing.
+use mathlib.Core.Path.{_≡_, refl, sym, ap, _∙_, subst, subst⁻¹}
+use mathlib.Core.Bool.{Bool, true, false, not, cond, _&&_}
+use mathlib.Core.List.{List, [], _∷_, map}
+use mathlib.Core.Logic.{_↔_, _≢_, _⊎_, inl, inr, ⊎-elim, Iff·trans}
+use Prim.Native.Nat.{ℕ, zero, suc, _<_, _≤_}
+use native.Mathlib.Decide.{ℕ-discrete}
+use native.Mathlib.Omega.{arith}
+use lib.Dec.{T, T-not, not-T, eqb, eqb→eq, eqb-refl}
+use lib.ListN.{length}
+use Rattle.roles.specs.Sets.{without, shares, partOf}
+use Rattle.roles.proofs.Member.{T?, T-and}
+use Rattle.roles.proofs.Laws.{partOf-refl, partOf-trans, partOf-antisym, partOf-le, shares-partOf, shares-without}
+use Rattle.meaning.specs.Lists.{Mem, Ascending, any, keep, put}
+use Rattle.meaning.specs.Rows.{hasPart, properPart, hasProperPart, losing, apart, reduceBy, reduce}
+use Rattle.meaning.proofs.ListLaws.{any-law, none-law, keep-law, keep-ascending, put-law, put-ascending, length-put, ascending-ext}
+
+-- ---- parts
+
+pub hasPart-law : (s : ℕ) (l : List ℕ) → T (hasPart s l) ↔ ((o : ℕ) × Mem o l × T (partOf o s))
+unfolding hasPart
+hasPart-law s l = any-law (λ o. partOf o s) l
+
+pub noPart-law : (s : ℕ) (l : List ℕ) → T (not (hasPart s l)) → (o : ℕ) → Mem o l → T (not (partOf o s))
+unfolding hasPart
+noPart-law s l = none-law (λ o. partOf o s) l .0
+
+properPart-law : (o s : ℕ) → T (properPart o s) ↔ (T (partOf o s) × (o ≢ s))
+unfolding properPart
+properPart-law o s = (
+  (λ h. let p = T-and (partOf o s) (not (eqb o s)) .0 h in (p .0, λ e. T-not (eqb o s) (p .1) (subst (λ (z : ℕ). T (eqb o z)) e (eqb-refl o)))),
+  λ p. T-and (partOf o s) (not (eqb o s)) .1 (p .0, not-T (eqb o s) (λ t. p .1 (eqb→eq o s t))),
+)
+
+pub hasProperPart-law : (s : ℕ) (l : List ℕ) → T (hasProperPart s l) → (o : ℕ) × Mem o l × T (partOf o s) × (o ≢ s)
+unfolding hasProperPart
+hasProperPart-law s l h = let r = any-law (λ o. properPart o s) l .0 h in let p = properPart-law (r .0) s .0 (r .2) in (r .0, r .1, p .0, p .1)
+
+-- no other set of the list is part of s
+abbrev pub Least : ℕ → List ℕ → Type 0
+Least s l = (o : ℕ) → Mem o l → T (partOf o s) → o ≡ s
+
+pub noProperPart-law : (s : ℕ) (l : List ℕ) → T (not (hasProperPart s l)) ↔ Least s l
+unfolding hasProperPart
+noProperPart-law s l = (
+  (λ h o m t. elim (ℕ-discrete o s) [
+    | yes e ↦ e
+    | no n ↦ absurd (T-not (properPart o s) (law .0 h o m) (properPart-law o s .1 (t, n)))
+  ]),
+  λ f. law .1 (λ o m. not-T (properPart o s) (λ t. let p = properPart-law o s .0 t in p .1 (f o m (p .0)))),
+)
+  where
+    law : T (not (any (λ o. properPart o s) l)) ↔ ((o : ℕ) → Mem o l → T (not (properPart o s)))
+    law = none-law (λ o. properPart o s) l
+
+-- ---- losing, apart
+
+pub losing-law : (s : ℕ) (l : List ℕ) (o : ℕ) → Mem o (losing s l) ↔ ((x : ℕ) × Mem x l × (o ≡ without x s))
+unfolding losing
+losing-law s [] o = ((λ m. absurd m), (λ p. p .1))
+losing-law s (x ∷ l) o = (
+  ⊎-elim (λ e. (x, inl refl, e)) (λ m. let r = losing-law s l o .0 m in (r .0, inr (r .1), r .2)),
+  λ p. ⊎-elim (λ e. inl (p .2 ∙ ap (λ (z : ℕ). without z s) e)) (λ m. inr (losing-law s l o .1 (p .0, m, p .2))) (p .1),
+)
+
+pub apart-law : (u : ℕ) (l : List ℕ) (o : ℕ) → Mem o (apart u l) ↔ (Mem o l × ¬ (T (shares o u)))
+unfolding apart
+apart-law u l o = (
+  (λ m. let p = law .0 m in (p .0, T-not (shares o u) (p .1))),
+  λ p. law .1 (p .0, not-T (shares o u) (p .1)),
+)
+  where
+    law : Mem o (keep (λ o. not (shares o u)) l) ↔ (Mem o l × T (not (shares o u)))
+    law = keep-law (λ o. not (shares o u)) l o
+
+pub apart-ascending : (u : ℕ) (l : List ℕ) → Ascending l → Ascending (apart u l)
+unfolding apart
+apart-ascending u l = keep-ascending (λ o. not (shares o u)) l
+
+-- ---- reduce
+
+module _ (all : List ℕ) where
+  mem-reduceBy-cond : (b : Bool) (x o : ℕ) (k : List ℕ) → Mem x (cond b k (put o k)) ↔ (((x ≡ o) × T (not b)) ⊎ Mem x k)
+  mem-reduceBy-cond true x o k = ((λ m. inr m), ⊎-elim (λ e. absurd (e .1)) (λ m. m))
+  mem-reduceBy-cond false x o k = (
+    (λ m. ⊎-elim (λ e. inl (e, tt)) (λ m′. inr m′) (put-law o k x .0 m)),
+    λ m. put-law o k x .1 (⊎-elim (λ e. inl (e .0)) (λ m′. inr m′) m),
+  )
+
+  reduceBy-law : (l : List ℕ) (x : ℕ) → Mem x (reduceBy all l) ↔ (Mem x l × T (not (hasProperPart x all)))
+  unfolding reduceBy
+  reduceBy-law [] x = ((λ m. absurd m), (λ m. m .0))
+  reduceBy-law (o ∷ l) x =
+      let law = mem-reduceBy-cond (hasProperPart o all) x o (reduceBy all l) in
+      let none : ℕ → Type 0 = λ (z : ℕ). T (not (hasProperPart z all)) in (
+        (λ m. ⊎-elim (λ e. (inl (e .0), subst⁻¹ none (e .0) (e .1))) (λ k. let r = reduceBy-law l x .0 k in (inr (r .0), r .1)) (law .0 m)),
+        λ r. law .1 (⊎-elim (λ e. inl (e, subst none e (r .1))) (λ k. inr (reduceBy-law l x .1 (k, r .1))) (r .0)),
+      )
+
+  ascending-reduceBy-cond : (b : Bool) (o : ℕ) (k : List ℕ) → Ascending k → Ascending (cond b k (put o k))
+  ascending-reduceBy-cond true o k r = r
+  ascending-reduceBy-cond false o k r = put-ascending o k r
+
+  reduceBy-ascending : (l : List ℕ) → Ascending (reduceBy all l)
+  unfolding reduceBy
+  reduceBy-ascending [] = tt
+  reduceBy-ascending (o ∷ l) = ascending-reduceBy-cond (hasProperPart o all) o (reduceBy all l) (reduceBy-ascending l)
+
+  length-reduceBy-cond : (b : Bool) (o n : ℕ) (k : List ℕ) → length k ≤ n → length (cond b k (put o k)) ≤ suc n
+  length-reduceBy-cond true o n k h = omega arith
+  length-reduceBy-cond false o n k h = omega (arith, length-put o k)
+
+  pub length-reduceBy : (l : List ℕ) → length (reduceBy all l) ≤ length l
+  unfolding reduceBy
+  length-reduceBy [] = omega arith
+  length-reduceBy (o ∷ l) = length-reduceBy-cond (hasProperPart o all) o (length l) (reduceBy all l) (length-reduceBy l)
+
+-- the reduced list has exactly the sets of which no other is a part
+pub reduce-law : (l : List ℕ) (x : ℕ) → Mem x (reduce l) ↔ (Mem x l × Least x l)
+unfolding reduce
+reduce-law l x = Iff·trans (reduceBy-law l l x) (
+  (λ p. (p .0, noProperPart-law x l .0 (p .1))),
+  λ p. (p .0, noProperPart-law x l .1 (p .1)),
+)
+
+-- each once, ascending
+pub reduce-ascending : (l : List ℕ) → Ascending (reduce l)
+unfolding reduce
+reduce-ascending l = reduceBy-ascending l l
+
+pub length-reduce : (l : List ℕ) → length (reduce l) ≤ length l
+unfolding reduce
+length-reduce l = length-reduceBy l l
+
+-- every set of the list has a part in the reduced list: a proper part is smaller as a number, so going to one ends
+pub reduce-part : (l : List ℕ) (x : ℕ) → Mem x l → (y : ℕ) × Mem y (reduce l) × T (partOf y x)
+reduce-part l x m = from (suc x) x (omega arith) m
+  where
+    from : (k x : ℕ) → x < k → Mem x l → (y : ℕ) × Mem y (reduce l) × T (partOf y x)
+    from zero x h m = absurd (let z : ⊥ = omega arith in z)
+    from (suc k) x h m =
+        ⊎-elim
+        (λ t. let p = hasProperPart-law x l t in
+        let le = partOf-le (p .0) x (p .2) in
+        let ne = p .3 in
+        let r = from k (p .0) (omega arith) (p .1) in
+        (r .0, r .1, partOf-trans (r .0) (p .0) x (r .2) (p .2)))
+        (λ t. (x, reduce-law l x .1 (m, noProperPart-law x l .0 t), partOf-refl x))
+        (T? (hasProperPart x l))
+
+-- an ascending list of which none is part of another is reduced already
+pub reduce-stays : (l : List ℕ) → Ascending l → ((o p : ℕ) → Mem o l → Mem p l → T (partOf o p) → o ≡ p) → reduce l ≡ l
+reduce-stays l r f = ascending-ext (reduce l) l (reduce-ascending l) r (λ x. ((λ m. reduce-law l x .0 m .0), (λ m. reduce-law l x .1 (m, λ y k t. f y x k m t))))
+
+-- reducing goes by the members alone
+pub reduce-same : (l k : List ℕ) → ((x : ℕ) → Mem x l ↔ Mem x k) → reduce l ≡ reduce k
+reduce-same l k e = ascending-ext (reduce l) (reduce k) (reduce-ascending l) (reduce-ascending k) (λ x. (
+  (λ m. let p = reduce-law l x .0 m in reduce-law k x .1 (e x .0 (p .0), λ o q t. p .1 o (e o .1 q) t)),
+  λ m. let p = reduce-law k x .0 m in reduce-law l x .1 (e x .1 (p .0), λ o q t. p .1 o (e o .0 q) t),
+))
+
+-- ---- the holder sets that share a role with each set of the list
+
+abbrev pub Meets : ℕ → List ℕ → Type 0
+Meets h l = (o : ℕ) → Mem o l → T (shares h o)
+
+-- reducing changes nothing of it
+pub reduce-meets : (l : List ℕ) (h : ℕ) → Meets h (reduce l) ↔ Meets h l
+reduce-meets l h = (
+  (λ m o k. let r = reduce-part l o k in shares-partOf h (r .0) o (r .2) (m (r .0) (r .1))),
+  λ m o k. m o (reduce-law l o .0 k .0),
+)
+
+-- nor does taking away what h has not
+pub losing-meets : (s : ℕ) (l : List ℕ) (h : ℕ) → ¬ (T (shares h s)) → Meets h (losing s l) ↔ Meets h l
+losing-meets s l h n = (
+  (λ m o k. shares-without h o s n .0 (m (without o s) (losing-law s l (without o s) .1 (o, k, refl)))),
+  λ m o k. let p = losing-law s l o .0 k in subst⁻¹ (λ (z : ℕ). T (shares h z)) (p .2) (shares-without h (p .0) s n .1 (m (p .0) (p .1))),
+)

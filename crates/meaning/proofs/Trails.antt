@@ -1,0 +1,86 @@
+-- The row after a recorded trail leaves possible exactly the possible holder sets of the trail. Assumes nothing.
+use mathlib.Core.Path.{_≡_, refl, sym, ap, _∙_, subst, subst⁻¹}
+use mathlib.Core.List.{List, [], _∷_, _++_}
+use mathlib.Core.Logic.{_↔_, Iff·trans}
+use Prim.Native.Nat.{ℕ, _^_, _<_}
+use lib.Dec.{T}
+use Rattle.roles.proofs.Laws.{shares-empty}
+use Rattle.meaning.specs.Events.{agrees, after, Effect, Becomes, Reached, Possible, Reply}
+use Rattle.meaning.specs.Rows.{Row, blank, Leaves, Good, step, rowAfter, Recorded}
+use Rattle.meaning.proofs.Steps.{step-leaves}
+use Rattle.meaning.proofs.Kept.{blank-good, step-good}
+use Rattle.meaning.specs.declared.Happening.{Happening}
+use Rattle.meaning.specs.declared.Happening.the-variants.{Allow, Deny, Given, Withdrawn}
+
+-- ---- from any good row
+
+pub after-good : (n : ℕ) (w : Row) (es : List Happening) → Good n w → Recorded n w es → Good n (rowAfter w es)
+unfolding rowAfter
+after-good n w [] g r = g
+after-good n w (e ∷ es) g r = after-good n (step e w) es (step-good n w e g (r .0) (r .1)) (r .2)
+
+pub after-leaves : (n : ℕ) (w : Row) (es : List Happening) → Good n w → Recorded n w es → (h : ℕ)
+    → Leaves n (rowAfter w es) h ↔ Reached (Leaves n w) es h
+unfolding rowAfter
+after-leaves n w [] g r h = ((λ m. (h, m, refl)), (λ p. subst (Leaves n w) (p .2) (p .1)))
+after-leaves n w (e ∷ es) g r h =
+    let ih = after-leaves n (step e w) es (step-good n w e g (r .0) (r .1)) (r .2) h in
+    let st = step-leaves n w e g (r .0) in (
+      (λ m. let p = ih .0 m in let i = st (p .0) .0 (p .1) in (i .0, i .1, (i .2, subst (λ (x : ℕ). Becomes es x h) (sym (i .3)) (p .2)))),
+      λ p. ih .1 (after e (p .0), st (after e (p .0)) .1 (p .0, p .1, p .2 .0, refl), p .2 .1),
+    )
+
+-- ---- from no row: all sets of roles below n
+
+blank-leaves : (n h : ℕ) → h < 2 ^ n → Leaves n blank h
+blank-leaves n h b = record { below = b; denies = shares-empty h; meets = λ o m. absurd m }
+
+pub row-leaves : (n : ℕ) (es : List Happening) → Recorded n blank es → (h : ℕ) → Leaves n (rowAfter blank es) h ↔ Possible n es h
+row-leaves n es r h = Iff·trans (after-leaves n blank es (blank-good n) r h) (
+  (λ p. (p .0, p .1 .below, p .2)),
+  λ p. (p .0, blank-leaves n (p .0) (p .1), p .2),
+)
+
+-- ---- trails taken apart
+
+becomes-then : (es : List Happening) (e : Happening) (h₀ h₁ : ℕ) → Becomes es h₀ h₁ → T (agrees e h₁) → Becomes (es ++ e ∷ []) h₀ (after e h₁)
+becomes-then [] e h₀ h₁ p a = (subst⁻¹ (λ (h : ℕ). T (agrees e h)) p a, ap (after e) p)
+becomes-then (x ∷ es) e h₀ h₁ p a = (p .0, becomes-then es e (after x h₀) h₁ (p .1) a)
+
+then-becomes : (es : List Happening) (e : Happening) (h₀ h : ℕ) → Becomes (es ++ e ∷ []) h₀ h
+    → (h₁ : ℕ) × Becomes es h₀ h₁ × T (agrees e h₁) × (after e h₁ ≡ h)
+then-becomes [] e h₀ h p = (h₀, refl, p .0, p .1)
+then-becomes (x ∷ es) e h₀ h p = let r = then-becomes es e (after x h₀) h (p .1) in (r .0, (p .0, r .1), r .2, r .3)
+
+-- one event more at the end of a trail has its effect on what was reached
+pub reached-then : (P : ℕ → Type 0) (es : List Happening) (e : Happening) (h : ℕ) → Reached P (es ++ e ∷ []) h ↔ Effect (Reached P es) e h
+reached-then P es e h = (
+  (λ p. let r = then-becomes es e (p .0) h (p .2) in (r .0, (p .0, p .1, r .1), r .2, r .3)),
+  λ r. let q = r .1 in (q .0, q .1, subst (λ (x : ℕ). Becomes (es ++ e ∷ []) (q .0) x) (r .3) (becomes-then es e (q .0) (r .0) (q .2) (r .2))),
+)
+
+-- a reply changes no holder set
+pub reply-after : (e : Happening) → Reply e → (h : ℕ) → after e h ≡ h
+unfolding after
+reply-after (Allow s) r h = refl
+reply-after (Deny s) r h = refl
+reply-after (Given q) r h = absurd r
+reply-after (Withdrawn q) r h = absurd r
+
+-- two replies next to each other change places
+becomes-swap : (xs ys : List Happening) (e f : Happening) → Reply e → Reply f → (h₀ h : ℕ) → Becomes (xs ++ e ∷ f ∷ ys) h₀ h → Becomes (xs ++ f ∷ e ∷ ys) h₀ h
+becomes-swap [] ys e f r q h₀ h p =
+    let x = reply-after e r h₀ in
+    let y = reply-after f q h₀ in
+    let both : after f (after e h₀) ≡ after e (after f h₀) = ap (after f) x ∙ y ∙ sym x ∙ ap (after e) (sym y) in (
+      subst (λ (z : ℕ). T (agrees f z)) x (p .1 .0),
+      (subst⁻¹ (λ (z : ℕ). T (agrees e z)) y (p .0), subst (λ (z : ℕ). Becomes ys z h) both (p .1 .1)),
+    )
+becomes-swap (a ∷ xs) ys e f r q h₀ h p = (p .0, becomes-swap xs ys e f r q (after a h₀) h (p .1))
+
+pub reached-swap : (P : ℕ → Type 0) (xs ys : List Happening) (e f : Happening) → Reply e → Reply f → (h : ℕ)
+    → Reached P (xs ++ e ∷ f ∷ ys) h ↔ Reached P (xs ++ f ∷ e ∷ ys) h
+reached-swap P xs ys e f r q h = (
+  (λ p. (p .0, p .1, becomes-swap xs ys e f r q (p .0) h (p .2))),
+  λ p. (p .0, p .1, becomes-swap xs ys f e q r (p .0) h (p .2)),
+)

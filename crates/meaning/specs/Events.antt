@@ -1,0 +1,76 @@
+-- What events mean: the holder sets that a trail of them leaves possible, and the verdict that those force.
+--     about e              the roles that an event names
+--     known n e            they all lie below the role count n
+--     agrees e h           the holder set h agrees with the event as it arrives
+--     after e h            the holder set h after the event
+--     Effect P e           the holder sets of P that agree with the event, as they are after it
+--     Becomes es h₀ h      h₀ agrees with every reply of the trail as it arrives, and becomes h by its updates
+--     Reached P es         what the starting sets P become along the trail
+--     Possible n es        the possible holder sets of a trail: what the sets of roles below n become
+--     NoneShares, AllShare    no set, every set of P shares a role with the session
+--     Decides P s a        a is the answer to the session s that the holder sets P force
+--     Reply e              the event is a reply, and no update
+use mathlib.Core.Path.{_≡_}
+use mathlib.Core.Bool.{Bool, true, not}
+use mathlib.Core.List.{List, [], _∷_}
+use mathlib.Core.Logic.{_↔_, _⊎_}
+use Prim.Native.Nat.{ℕ, _^_, _<_}
+use lib.Dec.{T}
+use Rattle.roles.specs.Sets.{single, allBelow, joined, without, shares, partOf}
+use Rattle.meaning.specs.declared.Happening.{Happening}
+use Rattle.meaning.specs.declared.Happening.the-variants.{Allow, Deny, Given, Withdrawn}
+
+unfoldable pub about : Happening → ℕ
+about (Allow s) = s .bits
+about (Deny s) = s .bits
+about (Given r) = single r
+about (Withdrawn r) = single r
+
+unfoldable pub known : ℕ → Happening → Bool
+known n e = partOf (about e) (allBelow n)
+
+-- an allow reply on s keeps the holder sets that share a role with s; a deny reply keeps those that share none
+unfoldable pub agrees : Happening → ℕ → Bool
+agrees (Allow s) h = shares h (s .bits)
+agrees (Deny s) h = not (shares h (s .bits))
+agrees (Given r) h = true
+agrees (Withdrawn r) h = true
+
+-- a given role is put into every holder set; a withdrawn role is taken out
+unfoldable pub after : Happening → ℕ → ℕ
+after (Allow s) h = h
+after (Deny s) h = h
+after (Given r) h = joined h (single r)
+after (Withdrawn r) h = without h (single r)
+
+abbrev pub Effect : (ℕ → Type 0) → Happening → ℕ → Type 0
+Effect P e h = (h₀ : ℕ) × P h₀ × T (agrees e h₀) × (after e h₀ ≡ h)
+
+abbrev pub Becomes : List Happening → ℕ → ℕ → Type 0
+Becomes [] h₀ h = h₀ ≡ h
+Becomes (e ∷ es) h₀ h = T (agrees e h₀) × Becomes es (after e h₀) h
+
+abbrev pub Reached : (ℕ → Type 0) → List Happening → ℕ → Type 0
+Reached P es h = (h₀ : ℕ) × P h₀ × Becomes es h₀ h
+
+abbrev pub Possible : ℕ → List Happening → ℕ → Type 0
+Possible n = Reached (λ h₀. h₀ < 2 ^ n)
+
+abbrev pub NoneShares : (ℕ → Type 0) → ℕ → Type 0
+NoneShares P s = (h : ℕ) → P h → ¬ (T (shares h s))
+
+abbrev pub AllShare : (ℕ → Type 0) → ℕ → Type 0
+AllShare P s = (h : ℕ) → P h → T (shares h s)
+
+-- 10 deny, 11 allow, 12 undecided, each exactly on its ground
+pub record Decides (P : ℕ → Type 0) (s a : ℕ) : Type 0 where
+  pub one-of : (a ≡ 10) ⊎ ((a ≡ 11) ⊎ (a ≡ 12))
+  pub deny : (a ≡ 10) ↔ NoneShares P s
+  pub allow : (a ≡ 11) ↔ AllShare P s
+  pub undecided : (a ≡ 12) ↔ (¬ (NoneShares P s) × ¬ (AllShare P s))
+
+abbrev pub Reply : Happening → Type 0
+Reply (Allow s) = Unit {0}
+Reply (Deny s) = Unit {0}
+Reply (Given r) = ⊥
+Reply (Withdrawn r) = ⊥

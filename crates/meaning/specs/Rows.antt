@@ -1,0 +1,143 @@
+-- A row: what is kept of one permission, which holder sets it leaves possible, and the steps that keep it so.
+--     Row, blank           the denied set and the open sets; a permission without a row has neither
+--     Leaves n w h         the row leaves the holder set h possible
+--     Good n w             the layout rules for the sets of a row
+--     mostOpens, fits      a row has room for 15 open sets
+--     hasPart s l          some set of the list is part of s
+--     properPart o s       o is part of s and not s itself
+--     hasProperPart s l    some set of the list is a proper part of s
+--     losing s l           the sets of the list, each without s
+--     apart u l            the sets of the list that share no role with u
+--     reduce l             the sets of the list that have no other of it as a proper part, each once, ascending
+--     denying, allowing, clearing, giving, withdrawing    the steps, over plain sets
+--     contradicts e w      no holder set that the row leaves possible agrees with the event
+--     step e w             the row after the event
+--     settle e w           the answer to the event, and the row afterwards
+--     rowAfter w es        the row after a trail
+--     Recorded n w es      every event of the trail names known roles and contradicts nothing when it arrives
+--     decide w s           the answer to a session: 10 deny, 11 allow, 12 undecided
+use mathlib.Core.Path.{_≡_}
+use mathlib.Core.Bool.{Bool, false, not, cond, _&&_}
+use mathlib.Core.List.{List, [], _∷_, map}
+use mathlib.Core.Logic.{_≢_}
+use Prim.Native.Nat.{ℕ, _^_, _<_}
+use lib.Dec.{T, eqb, leb}
+use lib.ListN.{length}
+use Rattle.roles.specs.Sets.{single, joined, without, shares, partOf}
+use Rattle.meaning.specs.Events.{known}
+use Rattle.meaning.specs.Lists.{Mem, Ascending, any, keep, put}
+use Rattle.meaning.specs.declared.Happening.{Happening}
+use Rattle.meaning.specs.declared.Happening.the-variants.{Allow, Deny, Given, Withdrawn}
+
+-- no role of the denied set holds the permission; of each open set some role does
+pub record Row : Type 0 where
+  pub denied : ℕ
+  pub opens : List ℕ
+
+abbrev pub blank : Row
+blank = record { denied = 0; opens = [] }
+
+pub record Leaves (n : ℕ) (w : Row) (h : ℕ) : Type 0 where
+  pub below : h < 2 ^ n
+  pub denies : ¬ (T (shares h (w .denied)))
+  pub meets : (o : ℕ) → Mem o (w .opens) → T (shares h o)
+
+pub record Good (n : ℕ) (w : Row) : Type 0 where
+  pub denied-below : w .denied < 2 ^ n
+  pub below : (o : ℕ) → Mem o (w .opens) → o < 2 ^ n
+  pub nonempty : (o : ℕ) → Mem o (w .opens) → o ≢ 0
+  pub apart-from-denied : (o : ℕ) → Mem o (w .opens) → ¬ (T (shares o (w .denied)))
+  pub ascending : Ascending (w .opens)
+  pub no-part : (o p : ℕ) → Mem o (w .opens) → Mem p (w .opens) → T (partOf o p) → o ≡ p
+
+abbrev pub mostOpens : ℕ
+mostOpens = 15
+
+unfoldable pub fits : Row → Bool
+fits w = leb (length (w .opens)) mostOpens
+
+-- ---- lists of sets
+
+unfoldable pub hasPart : ℕ → List ℕ → Bool
+hasPart s l = any (λ o. partOf o s) l
+
+unfoldable pub properPart : ℕ → ℕ → Bool
+properPart o s = partOf o s && not (eqb o s)
+
+unfoldable pub hasProperPart : ℕ → List ℕ → Bool
+hasProperPart s l = any (λ o. properPart o s) l
+
+unfoldable pub losing : ℕ → List ℕ → List ℕ
+losing s l = map (λ o. without o s) l
+
+unfoldable pub apart : ℕ → List ℕ → List ℕ
+apart u l = keep (λ o. not (shares o u)) l
+
+-- those of l that have none of `all` as a proper part
+unfoldable pub reduceBy : List ℕ → List ℕ → List ℕ
+reduceBy all [] = []
+reduceBy all (o ∷ l) = cond (hasProperPart o all) (reduceBy all l) (put o (reduceBy all l))
+
+unfoldable pub reduce : List ℕ → List ℕ
+reduce l = reduceBy l l
+
+-- ---- the steps
+
+-- the denied set gains s, every open set loses s, then reduce
+unfoldable pub denying : ℕ → Row → Row
+denying s w = record { denied = joined (w .denied) s; opens = reduce (losing s (w .opens)) }
+
+-- s without the denied set becomes an open set, then reduce
+unfoldable pub allowing : ℕ → Row → Row
+allowing s w = record { denied = w .denied; opens = reduce (without s (w .denied) ∷ w .opens) }
+
+-- u leaves the denied set, and open sets with a role of u are dropped
+unfoldable pub clearing : ℕ → Row → Row
+clearing u w = record { denied = without (w .denied) u; opens = apart u (w .opens) }
+
+-- after that, j becomes an open set
+unfoldable pub giving : ℕ → ℕ → Row → Row
+giving j u w = allowing j (clearing u w)
+
+-- u joins the denied set, and open sets with a role of u are dropped whole
+unfoldable pub withdrawing : ℕ → Row → Row
+withdrawing u w = record { denied = joined (w .denied) u; opens = apart u (w .opens) }
+
+unfoldable pub step : Happening → Row → Row
+step (Allow s) w = allowing (s .bits) w
+step (Deny s) w = denying (s .bits) w
+step (Given r) w = giving (single r) (single r) w
+step (Withdrawn r) w = withdrawing (single r) w
+
+unfoldable pub contradicts : Happening → Row → Bool
+contradicts (Allow s) w = partOf (s .bits) (w .denied)
+contradicts (Deny s) w = hasPart (s .bits) (w .opens)
+contradicts (Given r) w = false
+contradicts (Withdrawn r) w = false
+
+pub record Settled : Type 0 where
+  pub answer : ℕ
+  pub row : Row
+
+-- a reply whose new row does not fit is 7, full; such an update is 8, forgotten
+unfoldable pub overflow : Happening → Row → Settled
+overflow (Allow s) w = record { answer = 7; row = w }
+overflow (Deny s) w = record { answer = 7; row = w }
+overflow (Given r) w = record { answer = 8; row = blank }
+overflow (Withdrawn r) w = record { answer = 8; row = blank }
+
+unfoldable pub settle : Happening → Row → Settled
+settle e w =
+    cond (contradicts e w) (record { answer = 6; row = w })
+    (cond (fits (step e w)) (record { answer = 0; row = step e w }) (overflow e w))
+
+unfoldable pub rowAfter : Row → List Happening → Row
+rowAfter w [] = w
+rowAfter w (e ∷ es) = rowAfter (step e w) es
+
+abbrev pub Recorded : ℕ → Row → List Happening → Type 0
+Recorded n w [] = Unit {0}
+Recorded n w (e ∷ es) = T (known n e) × T (not (contradicts e w)) × Recorded n (step e w) es
+
+unfoldable pub decide : Row → ℕ → ℕ
+decide w s = cond (partOf s (w .denied)) 10 (cond (hasPart s (w .opens)) 11 12)

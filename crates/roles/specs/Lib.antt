@@ -1,0 +1,2 @@
+-- What the contracts of `roles` cite.
+pub mod Sets

@@ -1,0 +1,44 @@
+-- Role sets as numbers: role r is the bit of weight 2 ^ r. Definitions only; the laws are in `proofs/`.
+--     has s r, In s r    role r is in s
+--     single r           the set of the role r alone
+--     allBelow n         the set of all roles below n
+--     below64 s          the roles of s below 64: all that a `RoleSet` can hold
+--     partOf s t         every role of s is in t
+--     shares s t         some role is in both
+--     joined s t         the roles of either
+--     common s t         the roles of both
+--     without s t        the roles of s that are not in t
+use mathlib.Core.Bool.{Bool, not}
+use Prim.Native.Nat.{ℕ, _-_, _/_, _%_, _^_}
+use lib.Bits.{bitAnd, bitOr, bitXor}
+use lib.Dec.{T, eqb}
+
+unfoldable pub has : ℕ → ℕ → Bool
+has s r = eqb (s / 2 ^ r % 2) 1
+
+abbrev pub In : ℕ → ℕ → Type 0
+In s r = T (has s r)
+
+unfoldable pub single : ℕ → ℕ
+single r = 2 ^ r
+
+unfoldable pub allBelow : ℕ → ℕ
+allBelow n = 2 ^ n - 1
+
+unfoldable pub below64 : ℕ → ℕ
+below64 s = s % 2 ^ 64
+
+unfoldable pub joined : ℕ → ℕ → ℕ
+joined s t = bitOr s t
+
+unfoldable pub common : ℕ → ℕ → ℕ
+common s t = bitAnd s t
+
+unfoldable pub without : ℕ → ℕ → ℕ
+without s t = bitXor s (common s t)
+
+unfoldable pub shares : ℕ → ℕ → Bool
+shares s t = not (eqb (common s t) 0)
+
+unfoldable pub partOf : ℕ → ℕ → Bool
+partOf s t = eqb (without s t) 0

@@ -1,0 +1,76 @@
+// A set of roles: a 64-bit number in which role r is the bit of weight 2^r.
+ghost use mathlib.Core.Path.{_≡_};
+ghost use Rattle.roles.specs.Sets.{has, joined, without, shares, partOf, allBelow, single, below64};
+
+pub struct RoleSet {
+    pub bits: u64,
+}
+
+impl RoleSet {
+    // The set with no role.
+    pub const EMPTY: RoleSet = RoleSet { bits: 0 };
+
+    // The set of all roles below n; above 64 that is the set of all 64.
+    pub fn all_below(n: u64) -> RoleSet
+        ensures { λ s. ⌜ s .bits ≡ below64 (allBelow n) ⌝ }
+    {
+        if 64 <= n {
+            return RoleSet {
+                bits: 0xffff_ffff_ffff_ffff,
+            };
+        }
+        RoleSet { bits: (1 << n) - 1 }
+    }
+
+    // The set of the role r alone; there is no role 64 or above, so that is the empty set.
+    pub fn single(r: u64) -> RoleSet
+        ensures { λ s. ⌜ s .bits ≡ below64 (single r) ⌝ }
+    {
+        if 64 <= r {
+            return RoleSet::EMPTY;
+        }
+        RoleSet { bits: 1 << r }
+    }
+
+    // Whether the role r is in the set.
+    pub fn has(self, r: u64) -> bool
+        ensures { λ b. ⌜ b ≡ has (self .bits) r ⌝ }
+    {
+        if 64 <= r {
+            return false;
+        }
+        (self.bits >> r) % 2 == 1
+    }
+
+    // Whether every role of this set is in the other.
+    pub fn is_part_of(self, o: RoleSet) -> bool
+        ensures { λ b. ⌜ b ≡ partOf (self .bits) (o .bits) ⌝ }
+    {
+        self.bits ^ (self.bits & o.bits) == 0
+    }
+
+    // Whether some role is in both.
+    pub fn shares(self, o: RoleSet) -> bool
+        ensures { λ b. ⌜ b ≡ shares (self .bits) (o .bits) ⌝ }
+    {
+        self.bits & o.bits != 0
+    }
+
+    // The roles of either.
+    pub fn joined(self, o: RoleSet) -> RoleSet
+        ensures { λ s. ⌜ s .bits ≡ joined (self .bits) (o .bits) ⌝ }
+    {
+        RoleSet {
+            bits: self.bits | o.bits,
+        }
+    }
+
+    // The roles of this set that are not in the other.
+    pub fn without(self, o: RoleSet) -> RoleSet
+        ensures { λ s. ⌜ s .bits ≡ without (self .bits) (o .bits) ⌝ }
+    {
+        RoleSet {
+            bits: self.bits ^ (self.bits & o.bits),
+        }
+    }
+}
