@@ -1,19 +1,19 @@
 -- Laws of lists of open sets: their members, what reducing leaves of them, and which holder sets meet them. Assumes nothing.
 use mathlib.Core.Path.{_≡_, refl, sym, ap, _∙_, subst, subst⁻¹}
 use mathlib.Core.Bool.{Bool, true, false, not, cond, _&&_}
-use mathlib.Core.List.{List, [], _∷_, map}
+use mathlib.Core.List.{List, [], _∷_}
 use mathlib.Core.Logic.{_↔_, _≢_, _⊎_, inl, inr, ⊎-elim, Iff·trans}
 use Prim.Native.Nat.{ℕ, zero, suc, _<_, _≤_}
 use native.Mathlib.Decide.{ℕ-discrete}
 use native.Mathlib.Omega.{arith}
 use lib.Dec.{T, T-not, not-T, eqb, eqb→eq, eqb-refl}
-use lib.ListN.{length}
+use lib.ListN.{length, length-map}
 use Rattle.roles.specs.Sets.{without, shares, partOf}
 use Rattle.roles.proofs.Member.{T?, T-and}
 use Rattle.roles.proofs.Laws.{partOf-refl, partOf-trans, partOf-antisym, partOf-le, shares-partOf, shares-without}
 use Rattle.meaning.specs.Lists.{Mem, Ascending, any, keep, put}
 use Rattle.meaning.specs.Rows.{hasPart, properPart, hasProperPart, losing, apart, reduceBy, reduce}
-use Rattle.meaning.proofs.ListLaws.{any-law, none-law, keep-law, keep-ascending, put-law, put-ascending, length-put, ascending-ext}
+use Rattle.meaning.proofs.ListLaws.{any-law, none-law, keep-law, keep-ascending, length-keep, put-law, put-ascending, length-put, ascending-ext}
 
 -- ---- parts
 
@@ -76,6 +76,14 @@ apart-law u l o = (
 pub apart-ascending : (u : ℕ) (l : List ℕ) → Ascending l → Ascending (apart u l)
 unfolding apart
 apart-ascending u l = keep-ascending (λ o. not (shares o u)) l
+
+pub length-losing : (s : ℕ) (l : List ℕ) → length (losing s l) ≡ length l
+unfolding losing
+length-losing s l = length-map l (λ o. without o s)
+
+pub length-apart : (u : ℕ) (l : List ℕ) → length (apart u l) ≤ length l
+unfolding apart
+length-apart u l = length-keep (λ o. not (shares o u)) l
 
 -- ---- reduce
 
