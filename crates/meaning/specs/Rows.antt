@@ -119,16 +119,22 @@ pub record Settled : Type 0 where
   pub answer : ℕ
   pub row : Row
 
+abbrev pub unchanged : ℕ → Row → Settled
+unchanged a w = record { answer = a; row = w }
+
+abbrev pub forgotten : Settled
+forgotten = record { answer = 8; row = blank }
+
 -- a reply whose new row does not fit is 7, full; such an update is 8, forgotten
 unfoldable pub overflow : Happening → Row → Settled
-overflow (Allow s) w = record { answer = 7; row = w }
-overflow (Deny s) w = record { answer = 7; row = w }
-overflow (Given r) w = record { answer = 8; row = blank }
-overflow (Withdrawn r) w = record { answer = 8; row = blank }
+overflow (Allow s) w = unchanged 7 w
+overflow (Deny s) w = unchanged 7 w
+overflow (Given r) w = forgotten
+overflow (Withdrawn r) w = forgotten
 
 unfoldable pub settle : Happening → Row → Settled
 settle e w =
-    cond (contradicts e w) (record { answer = 6; row = w })
+    cond (contradicts e w) (unchanged 6 w)
     (cond (fits (step e w)) (record { answer = 0; row = step e w }) (overflow e w))
 
 unfoldable pub rowAfter : Row → List Happening → Row
