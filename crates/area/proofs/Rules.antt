@@ -1,0 +1,300 @@
+-- The rules of a good area say that it holds a good state. Assumes nothing.
+use mathlib.Core.Path.{_≡_, refl, sym, ap, _∙_, subst, subst⁻¹}
+use mathlib.Core.Bool.{Bool, true, false, not, _&&_, _||_}
+use mathlib.Core.List.{List, [], _∷_}
+use mathlib.Core.Logic.{_↔_, _≢_, _⊎_, inl, inr, ⊎-elim}
+use Prim.Native.Nat.{ℕ, zero, suc, _+_, _*_, _^_, _≤_, _<_}
+use native.Mathlib.Nat.{le-of-suc-le-suc}
+use native.Mathlib.Decide.{ℕ-discrete}
+use native.Mathlib.Omega.{arith}
+use lib.Dec.{T, T-not, not-T, eqb, ltb, leb, eqb→eq, eqb-refl, ltb→lt, lt→ltb, leb→le, le→leb}
+use lib.ListN.{length, getD, drop}
+use Rattle.words.specs.Words.{allZero}
+use Rattle.roles.specs.Sets.{shares, partOf}
+use Rattle.roles.proofs.Member.{T-and, T-or}
+use Rattle.roles.proofs.Laws.{partOf-le}
+use Rattle.meaning.specs.Lists.{Mem, Ascending, any}
+use Rattle.meaning.specs.Rows.{Row, Good, mostOpens}
+use Rattle.meaning.proofs.ListLaws.{none-law}
+use Rattle.area.specs.Layout.{mostRoles, mostRows, lastPermission, contentWords, bodyWords, areaWords, roleCount, rowsUsed, contents, bodies, permissionAt, countAt, deniedAt, placesAt, opensAt, permissionBefore, allOf, eachBelow, belowFirst, openRules, opensGood, rowRules, goodRowAt, areaRules, goodArea}
+use Rattle.area.specs.State.{Entry, State, GoodRow, GoodRows, GoodState, pad, each, content, body, wordsOf, entryAt, entriesFrom, heldBy}
+use Rattle.area.proofs.RowLaws.{none, GoodEntry, row-good, rows-ascending}
+use Rattle.area.proofs.Cells.{pad-behind, length-each, length-entries}
+use Rattle.area.proofs.Held.{content-wide, body-wide, length-wordsOf, contents-is, bodies-is, roles-is, used-is, content-is, body-is, entry-is, held-words, opens-long, words-held}
+
+-- ---- all rules of a list
+
+abbrev Hold : List Bool → Type 0
+Hold [] = Unit {0}
+Hold (b ∷ bs) = T b × Hold bs
+
+allOf-law : (bs : List Bool) → T (allOf bs) ↔ Hold bs
+allOf-law [] = ((λ h. tt), (λ h. tt))
+allOf-law (b ∷ bs) = (
+  (λ h. let p = T-and b (allOf bs) .0 h in (p .0, allOf-law bs .0 (p .1))),
+  λ p. T-and b (allOf bs) .1 (p .0, allOf-law bs .1 (p .1)),
+)
+
+eachBelow-law : (n : ℕ) (p : ℕ → Bool) → T (eachBelow n p) ↔ ((k : ℕ) → k < n → T (p k))
+eachBelow-law zero p = ((λ h k u. absurd (let z : ⊥ = omega arith in z)), (λ f. tt))
+eachBelow-law (suc n) p = (
+  (λ h k u. let q = T-and (eachBelow n p) (p n) .0 h in elim (ℕ-discrete k n) [
+    | yes e ↦ subst⁻¹ (λ (j : ℕ). T (p j)) e (q .1)
+    | no d ↦ eachBelow-law n p .0 (q .0) k (omega arith)
+  ]),
+  λ f. T-and (eachBelow n p) (p n) .1 (eachBelow-law n p .1 (λ k u. f k (omega arith)), f n (omega arith)),
+)
+
+nonzero : (x : ℕ) → T (not (eqb x 0)) ↔ (x ≢ 0)
+nonzero x = (
+  (λ h e. T-not (eqb x 0) h (subst⁻¹ (λ (y : ℕ). T (eqb y 0)) e tt)),
+  λ n. not-T (eqb x 0) (λ t. n (eqb→eq x 0 t)),
+)
+
+-- ---- the open sets of a row
+
+module _ (n d : ℕ) where
+  ascending-first : (o : ℕ) (l : List ℕ) → T (belowFirst o l) → Ascending l → (y : ℕ) → Mem y l → o < y
+  ascending-first o [] h r y m = absurd m
+  ascending-first o (x ∷ l) h r y m = let b = ltb→lt o x h in ⊎-elim (λ e. omega arith) (λ k. let c = r .0 y k in omega arith) m
+
+  first-ascending : (o : ℕ) (l : List ℕ) → ((y : ℕ) → Mem y l → o < y) → T (belowFirst o l)
+  first-ascending o [] f = tt
+  first-ascending o (x ∷ l) f = lt→ltb o x (f x (inl refl))
+
+  pub opensGood-law : (l : List ℕ) → d < 2 ^ n → T (opensGood n d l) ↔ Good n (record { denied = d; opens = l })
+  unfolding opensGood
+  opensGood-law [] b = (
+    (λ h. record { denied-below = b; below = λ o m. absurd m; nonempty = λ o m. absurd m; apart-from-denied = λ o m. absurd m; ascending = tt; no-part = λ o p m. absurd m }),
+    λ g. tt,
+  )
+  opensGood-law (o ∷ l) b = (
+    (λ h.
+        let p = T-and (opensGood n d l) (allOf (openRules n d o l)) .0 h in
+        let g = opensGood-law l b .0 (p .0) in
+        let r = allOf-law (openRules n d o l) .0 (p .1) in
+        let above = ascending-first o l (r .1 .1 .1 .0) (g .ascending) in
+        let alone = none-law (partOf o) l .0 (r .1 .1 .1 .1 .0) in
+        record {
+          denied-below = b;
+          below = λ x. ⊎-elim (λ e. subst⁻¹ (λ (z : ℕ). z < 2 ^ n) e (ltb→lt o (2 ^ n) (r .1 .0))) (g .below x);
+          nonempty = λ x. ⊎-elim (λ e. subst⁻¹ (λ (z : ℕ). z ≢ 0) e (nonzero o .0 (r .0))) (g .nonempty x);
+          apart-from-denied = λ x. ⊎-elim (λ e. subst⁻¹ (λ (z : ℕ). ¬ (T (shares z d))) e (T-not (shares o d) (r .1 .1 .0))) (g .apart-from-denied x);
+          ascending = (above, g .ascending);
+          no-part = λ x y mx my t. ⊎-elim
+              (λ ex. ⊎-elim
+              (λ ey. ex ∙ sym ey)
+              (λ ky. absurd (T-not (partOf o y) (alone y ky) (subst (λ (z : ℕ). T (partOf z y)) ex t)))
+              my)
+              (λ kx. ⊎-elim
+              (λ ey. let le = partOf-le x y t in let lt = above x kx in absurd (let z : ⊥ = omega arith in z))
+              (λ ky. g .no-part x y kx ky t)
+              my)
+              mx;
+        }),
+    λ g.
+        let rest : Good n (record { denied = d; opens = l }) = record {
+          denied-below = b;
+          below = λ x m. g .below x (inr m);
+          nonempty = λ x m. g .nonempty x (inr m);
+          apart-from-denied = λ x m. g .apart-from-denied x (inr m);
+          ascending = g .ascending .1;
+          no-part = λ x y mx my. g .no-part x y (inr mx) (inr my);
+        } in
+        T-and (opensGood n d l) (allOf (openRules n d o l)) .1 (
+          opensGood-law l b .1 rest,
+          allOf-law (openRules n d o l) .1 (
+            nonzero o .1 (g .nonempty o (inl refl)),
+            (
+              lt→ltb o (2 ^ n) (g .below o (inl refl)),
+              (
+                not-T (shares o d) (g .apart-from-denied o (inl refl)),
+                (
+                  first-ascending o l (g .ascending .0),
+                  (
+                    none-law (partOf o) l .1 (λ y m. not-T (partOf o y) (λ t.
+                        let e = g .no-part o y (inl refl) (inr m) t in let lt = g .ascending .0 y m in let z : ⊥ = omega arith in z)),
+                    tt,
+                  ),
+                ),
+              ),
+            ),
+          ),
+        ),
+  )
+
+-- ---- a row
+
+-- something is denied or open, for the words and for the row
+says-law : (d c q : ℕ) → q ≡ c → T (not (eqb d 0) || not (eqb c 0)) ↔ T (not (eqb d 0 && eqb q 0))
+says-law d c q e = rw e (go (eqb d 0) (eqb c 0))
+  where
+    go : (a b : Bool) → T (not a || not b) ↔ T (not (a && b))
+    go true true = ((λ h. h), (λ h. h))
+    go true false = ((λ h. h), (λ h. h))
+    go false b = ((λ h. h), (λ h. h))
+
+-- what the rules of row i say
+pub record RowFacts (ws : List ℕ) (i : ℕ) : Type 0 where
+  pub few : countAt ws i ≤ mostOpens
+  pub above : permissionBefore ws i < permissionAt ws i
+  pub valid : permissionAt ws i ≤ lastPermission
+  pub row : GoodRow (roleCount ws) (entryAt ws i .row)
+  pub behind : T (allZero (drop (countAt ws i) (placesAt ws i)))
+
+module _ (ws : List ℕ) (long : length ws ≡ areaWords) (used : rowsUsed ws ≤ mostRows) (i : ℕ) (h : i < rowsUsed ws) where
+  pub row-law : T (goodRowAt ws i) ↔ RowFacts ws i
+  unfolding goodRowAt
+  row-law = (
+    (λ t.
+        let r = allOf-law (rowRules ws i) .0 t in
+        let few = leb→le (countAt ws i) mostOpens (r .0) in
+        let len = opens-long ws long used i h few in
+        let d = ltb→lt (deniedAt ws i) (2 ^ roleCount ws) (r .1 .1 .1 .0) in
+        record {
+          few = few;
+          above = ltb→lt (permissionBefore ws i) (permissionAt ws i) (r .1 .0);
+          valid = leb→le (permissionAt ws i) lastPermission (r .1 .1 .0);
+          row = record {
+            good = opensGood-law (roleCount ws) (deniedAt ws i) (opensAt ws i) d .0 (r .1 .1 .1 .1 .1 .0);
+            says = says-law (deniedAt ws i) (countAt ws i) (length (opensAt ws i)) len .0 (r .1 .1 .1 .1 .0);
+            few = omega arith;
+          };
+          behind = r .1 .1 .1 .1 .1 .1 .0;
+        }),
+    λ f.
+        let g = f .row in
+        let d = g .good .denied-below in
+        let len = opens-long ws long used i h (f .few) in
+        allOf-law (rowRules ws i) .1 (
+          le→leb (countAt ws i) mostOpens (f .few),
+          (
+            lt→ltb (permissionBefore ws i) (permissionAt ws i) (f .above),
+            (
+              le→leb (permissionAt ws i) lastPermission (f .valid),
+              (
+                lt→ltb (deniedAt ws i) (2 ^ roleCount ws) d,
+                (
+                  says-law (deniedAt ws i) (countAt ws i) (length (opensAt ws i)) len .1 (g .says),
+                  (opensGood-law (roleCount ws) (deniedAt ws i) (opensAt ws i) d .1 (g .good), (f .behind, tt)),
+                ),
+              ),
+            ),
+          ),
+        ),
+  )
+
+-- ---- the area
+
+pub record AreaFacts (ws : List ℕ) : Type 0 where
+  pub some-roles : 1 ≤ roleCount ws
+  pub most-roles : roleCount ws ≤ mostRoles
+  pub used : rowsUsed ws ≤ mostRows
+  pub rows : (i : ℕ) → i < rowsUsed ws → RowFacts ws i
+  pub no-contents : T (allZero (drop (rowsUsed ws * contentWords) (contents ws)))
+  pub no-bodies : T (allZero (drop (rowsUsed ws * bodyWords) (bodies ws)))
+
+pub area-law : (ws : List ℕ) → length ws ≡ areaWords → T (goodArea ws) ↔ AreaFacts ws
+unfolding goodArea
+area-law ws long = (
+  (λ t.
+      let r = allOf-law (areaRules ws) .0 t in
+      let used = leb→le (rowsUsed ws) mostRows (r .1 .1 .0) in
+      record {
+        some-roles = leb→le 1 (roleCount ws) (r .0);
+        most-roles = leb→le (roleCount ws) mostRoles (r .1 .0);
+        used = used;
+        rows = λ i h. row-law ws long used i h .0 (eachBelow-law (rowsUsed ws) (goodRowAt ws) .0 (r .1 .1 .1 .0) i h);
+        no-contents = r .1 .1 .1 .1 .0;
+        no-bodies = r .1 .1 .1 .1 .1 .0;
+      }),
+  λ f. allOf-law (areaRules ws) .1 (
+    le→leb 1 (roleCount ws) (f .some-roles),
+    (
+      le→leb (roleCount ws) mostRoles (f .most-roles),
+      (
+        le→leb (rowsUsed ws) mostRows (f .used),
+        (
+          eachBelow-law (rowsUsed ws) (goodRowAt ws) .1 (λ i h. row-law ws long (f .used) i h .1 (f .rows i h)),
+          (f .no-contents, (f .no-bodies, tt)),
+        ),
+      ),
+    ),
+  ),
+)
+
+-- ---- from a good area to a good state
+
+rows-good : (ws : List ℕ) (i k : ℕ) → ((j : ℕ) → i ≤ j → j < i + k → RowFacts ws j) → GoodRows (roleCount ws) (permissionBefore ws i) (entriesFrom ws i k)
+unfolding entriesFrom permissionBefore
+rows-good ws i zero f = tt
+rows-good ws i (suc k) f =
+    let r = f i (omega arith) (omega arith) in
+    (r .above, r .valid, r .row, rows-good ws (suc i) k (λ j u v. f j (omega arith) (omega arith)))
+
+pub area-holds : (ws : List ℕ) → length ws ≡ areaWords → T (goodArea ws) → GoodState (heldBy ws) × (wordsOf (heldBy ws) ≡ ws)
+unfolding heldBy permissionBefore
+area-holds ws long t =
+    let f = area-law ws long .0 t in (
+      record {
+        some-roles = f .some-roles;
+        most-roles = f .most-roles;
+        most-rows = omega (arith, length-entries ws 0 (rowsUsed ws), f .used);
+        good-rows = rows-good ws 0 (rowsUsed ws) (λ j u v. f .rows j (omega arith));
+      },
+      words-held ws long (f .used) (λ i h. (f .rows i h .few, f .rows i h .behind)) (f .no-contents) (f .no-bodies),
+    )
+
+-- ---- from a good state to a good area
+
+zeros-behind : (n : ℕ) (l whole : List ℕ) (u : ℕ) → u ≡ length l → whole ≡ pad n l → length l ≤ n → T (allZero (drop u whole))
+zeros-behind n l whole u e w h = rw (e, w) (pad-behind n l h)
+
+module _ (s : State) (g : GoodState s) where
+  facts : (i : ℕ) → i < length (s .rows) → GoodEntry (s .roles) 0 (getD (s .rows) i none)
+  facts = row-good (s .roles) 0 (s .rows) (g .good-rows)
+
+  pub few-opens : (i : ℕ) → i < length (s .rows) → length (getD (s .rows) i none .row .opens) ≤ mostOpens
+  few-opens i u = facts i u .good-row .few
+
+  pub held-is : heldBy (wordsOf s) ≡ s
+  held-is = held-words s (g .most-rows) few-opens
+
+  above-is : (i : ℕ) → i < length (s .rows) → permissionBefore (wordsOf s) i < getD (s .rows) i none .permission
+  unfolding permissionBefore
+  above-is zero u = facts zero u .above
+  above-is (suc i) u =
+      subst⁻¹ (λ (l : List ℕ). getD l 0 0 < getD (s .rows) (suc i) none .permission) (content-is s (g .most-rows) i (omega arith))
+      (rows-ascending (s .roles) 0 (s .rows) (g .good-rows) i (suc i) (omega arith) u)
+
+  row-is : (i : ℕ) → i < length (s .rows) → RowFacts (wordsOf s) i
+  row-is i u =
+      let f = facts i u in
+      let e = getD (s .rows) i none in
+      let few = f .good-row .few in
+      let c = content-is s (g .most-rows) i u in
+      let b = body-is s (g .most-rows) i u in
+      record {
+        few = subst⁻¹ (λ (l : List ℕ). getD l 1 0 ≤ mostOpens) c few;
+        above = subst⁻¹ (λ (l : List ℕ). permissionBefore (wordsOf s) i < getD l 0 0) c (above-is i u);
+        valid = subst⁻¹ (λ (l : List ℕ). getD l 0 0 ≤ lastPermission) c (f .valid);
+        row = subst⁻¹ (λ (x : Entry). GoodRow (roleCount (wordsOf s)) (x .row)) (entry-is s (g .most-rows) i u few) (subst⁻¹ (λ (n : ℕ). GoodRow n (e .row)) (roles-is s) (f .good-row));
+        behind = subst⁻¹ (λ (l : List ℕ). T (allZero (drop (getD l 1 0) (placesAt (wordsOf s) i)))) c
+            (subst⁻¹ (λ (l : List ℕ). T (allZero (drop (length (e .row .opens)) (drop 1 l)))) b (pad-behind mostOpens (e .row .opens) few));
+      }
+
+  pub state-area : T (goodArea (wordsOf s))
+  state-area =
+      let few : length (s .rows) ≤ mostRows = g .most-rows in
+      let cs = length-each content contentWords content-wide (s .rows) in
+      let bs = length-each body bodyWords body-wide (s .rows) in
+      area-law (wordsOf s) (length-wordsOf s) .1 (record {
+        some-roles = subst⁻¹ (λ (n : ℕ). 1 ≤ n) (roles-is s) (g .some-roles);
+        most-roles = subst⁻¹ (λ (n : ℕ). n ≤ mostRoles) (roles-is s) (g .most-roles);
+        used = subst⁻¹ (λ (n : ℕ). n ≤ mostRows) (used-is s) few;
+        rows = λ i h. row-is i (subst (λ (n : ℕ). i < n) (used-is s) h);
+        no-contents = zeros-behind (mostRows * contentWords) (each content (s .rows)) (contents (wordsOf s)) (rowsUsed (wordsOf s) * contentWords)
+            (ap (λ (n : ℕ). n * contentWords) (used-is s) ∙ sym cs) (contents-is s) (omega (arith, cs));
+        no-bodies = zeros-behind (mostRows * bodyWords) (each body (s .rows)) (bodies (wordsOf s)) (rowsUsed (wordsOf s) * bodyWords)
+            (ap (λ (n : ℕ). n * bodyWords) (used-is s) ∙ sym bs) (bodies-is s) (omega (arith, bs));
+      })

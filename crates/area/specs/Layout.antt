@@ -1,0 +1,159 @@
+-- The lent area: its numbers, where things stand in it, and the rules of a good area. There is one good area for
+-- each state (`State`), which is why equal knowledge means equal bytes.
+--
+--     word 0      role count n
+--     word 1      rows used
+--     word 2      +------------+-----------------+
+--                 | permission | number of opens |    contents: 128 entries, the used ones first,
+--                 | permission | number of opens |    permissions strictly ascending
+--                 | ..         | ..              |
+--     word 258    +------------+-----------------+-----------------------+
+--                 | denied set | open sets in the first of 15 places     |    bodies: 128, entry i belongs to body i
+--                 | denied set | open sets in the first of 15 places     |
+--                 | ..         | ..                                      |
+--     word 2306   +------------+-----------------------------------------+    everything unused is zero
+--
+--     roleCount, rowsUsed               the header's words
+--     contentAt, bodyAt                 contents entry i, body i
+--     permissionAt, countAt             the two words of an entry
+--     deniedAt, placesAt, opensAt       the denied set, the 15 places, the open sets in the first of them
+--     openRules, rowRules, areaRules    the rules for an open set, a row, the area, over the area's words
+--     opensGood, goodRowAt, goodArea    all of them hold
+--     goodBytes                         the bytes are a good area
+use mathlib.Core.Bool.{Bool, true, false, not, _&&_, _||_}
+use mathlib.Core.List.{List, [], _∷_}
+use Prim.Native.Nat.{ℕ, zero, suc, _+_, _*_, _^_}
+use lib.Dec.{eqb, ltb, leb}
+use lib.ListN.{length, getD, take, drop}
+use Rattle.words.specs.Words.{words, allZero}
+use Rattle.roles.specs.Sets.{shares, partOf}
+use Rattle.meaning.specs.Lists.{any}
+use Rattle.meaning.specs.Rows.{Row, mostOpens}
+
+-- ---- the numbers
+
+abbrev pub mostRoles : ℕ
+mostRoles = 64
+
+abbrev pub mostRows : ℕ
+mostRows = 128
+
+abbrev pub lastPermission : ℕ
+lastPermission = 4294967295
+
+abbrev pub contentWords : ℕ
+contentWords = 2
+
+abbrev pub bodyWords : ℕ
+bodyWords = 1 + mostOpens
+
+abbrev pub contentsAt : ℕ
+contentsAt = 2
+
+abbrev pub bodiesAt : ℕ
+bodiesAt = contentsAt + mostRows * contentWords
+
+abbrev pub areaWords : ℕ
+areaWords = bodiesAt + mostRows * bodyWords
+
+abbrev pub areaBytes : ℕ
+areaBytes = areaWords * 8
+
+-- ---- where things stand
+
+abbrev pub roleCount : List ℕ → ℕ
+roleCount ws = getD ws 0 0
+
+abbrev pub rowsUsed : List ℕ → ℕ
+rowsUsed ws = getD ws 1 0
+
+abbrev pub contents : List ℕ → List ℕ
+contents ws = take (mostRows * contentWords) (drop contentsAt ws)
+
+abbrev pub bodies : List ℕ → List ℕ
+bodies ws = drop bodiesAt ws
+
+abbrev pub contentAt : List ℕ → ℕ → List ℕ
+contentAt ws i = take contentWords (drop (i * contentWords) (contents ws))
+
+abbrev pub bodyAt : List ℕ → ℕ → List ℕ
+bodyAt ws i = take bodyWords (drop (i * bodyWords) (bodies ws))
+
+abbrev pub permissionAt : List ℕ → ℕ → ℕ
+permissionAt ws i = getD (contentAt ws i) 0 0
+
+abbrev pub countAt : List ℕ → ℕ → ℕ
+countAt ws i = getD (contentAt ws i) 1 0
+
+abbrev pub deniedAt : List ℕ → ℕ → ℕ
+deniedAt ws i = getD (bodyAt ws i) 0 0
+
+abbrev pub placesAt : List ℕ → ℕ → List ℕ
+placesAt ws i = drop 1 (bodyAt ws i)
+
+abbrev pub opensAt : List ℕ → ℕ → List ℕ
+opensAt ws i = take (countAt ws i) (placesAt ws i)
+
+-- the permission of the row before, and 0 before the first
+unfoldable pub permissionBefore : List ℕ → ℕ → ℕ
+permissionBefore ws zero = 0
+permissionBefore ws (suc i) = permissionAt ws i
+
+-- ---- the rules
+
+-- all of the rules hold
+abbrev pub allOf : List Bool → Bool
+allOf [] = true
+allOf (b ∷ bs) = b && allOf bs
+
+-- p holds of each number below n
+abbrev pub eachBelow : ℕ → (ℕ → Bool) → Bool
+eachBelow zero p = true
+eachBelow (suc n) p = eachBelow n p && p n
+
+-- o is below the first of the list
+abbrev pub belowFirst : ℕ → List ℕ → Bool
+belowFirst o [] = true
+belowFirst o (p ∷ l) = ltb o p
+
+-- an open set o before those of l: nonempty, below n, sharing no role with the denied set d, below the next, part of none
+-- (a greater set is part of no smaller one)
+abbrev pub openRules : ℕ → ℕ → ℕ → List ℕ → List Bool
+openRules n d o l = not (eqb o 0) ∷ ltb o (2 ^ n) ∷ not (shares o d) ∷ belowFirst o l ∷ not (any (partOf o) l) ∷ []
+
+unfoldable pub opensGood : ℕ → ℕ → List ℕ → Bool
+opensGood n d [] = true
+opensGood n d (o ∷ l) = opensGood n d l && allOf (openRules n d o l)
+
+-- row i: at most 15 open sets; a permission above the one before, and valid; a denied set below n; something denied or
+-- open; good open sets; nothing behind them
+abbrev pub rowRules : List ℕ → ℕ → List Bool
+rowRules ws i =
+    leb (countAt ws i) mostOpens
+    ∷ ltb (permissionBefore ws i) (permissionAt ws i)
+    ∷ leb (permissionAt ws i) lastPermission
+    ∷ ltb (deniedAt ws i) (2 ^ roleCount ws)
+    ∷ (not (eqb (deniedAt ws i) 0) || not (eqb (countAt ws i) 0))
+    ∷ opensGood (roleCount ws) (deniedAt ws i) (opensAt ws i)
+    ∷ allZero (drop (countAt ws i) (placesAt ws i))
+    ∷ []
+
+unfoldable pub goodRowAt : List ℕ → ℕ → Bool
+goodRowAt ws i = allOf (rowRules ws i)
+
+-- 1 to 64 roles; at most 128 rows; each used row good; nothing behind them
+abbrev pub areaRules : List ℕ → List Bool
+areaRules ws =
+    leb 1 (roleCount ws)
+    ∷ leb (roleCount ws) mostRoles
+    ∷ leb (rowsUsed ws) mostRows
+    ∷ eachBelow (rowsUsed ws) (goodRowAt ws)
+    ∷ allZero (drop (rowsUsed ws * contentWords) (contents ws))
+    ∷ allZero (drop (rowsUsed ws * bodyWords) (bodies ws))
+    ∷ []
+
+unfoldable pub goodArea : List ℕ → Bool
+goodArea ws = allOf (areaRules ws)
+
+unfoldable pub goodBytes : List ℕ → Bool
+goodBytes l = eqb (length l) areaBytes && goodArea (words l)

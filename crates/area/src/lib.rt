@@ -1,0 +1,1 @@
+// The lent area: the check of it.
