@@ -49,7 +49,7 @@ pub pad-take : (n c : ℕ) (l : List ℕ) → length l ≡ n → c ≤ n → T (
 pad-take n c l e h z =
     let len : length (take c l) ≡ c = length-take-le c l (omega arith) in
     let rest : replicate (n - length (take c l)) 0 ≡ drop c l =
-        ap (λ (k : ℕ). replicate k 0) (let q : n - length (take c l) ≡ length (drop c l) = omega (arith, length-drop c l) in q) ∙ sym (allZero-law (drop c l) z) in
+    ap (λ (k : ℕ). replicate k 0) (let q : n - length (take c l) ≡ length (drop c l) = omega (arith, length-drop c l) in q) ∙ sym (allZero-law (drop c l) z) in
     pad-short n (take c l) (omega arith) ∙ ap (λ (r : List ℕ). take c l ++ r) rest ∙ take-append-drop c l
 
 module _ (n : ℕ) (l : List ℕ) (h : length l ≤ n) where

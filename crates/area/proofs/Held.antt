@@ -80,7 +80,7 @@ module _ (s : State) where
       pub entry-is : length (getD (s .rows) i none .row .opens) ≤ mostOpens → entryAt (wordsOf s) i ≡ getD (s .rows) i none
       entry-is few =
           let opens : opensAt (wordsOf s) i ≡ getD (s .rows) i none .row .opens =
-              ap₂ (λ (c b : List ℕ). take (getD c 1 0) (drop 1 b)) content-is body-is ∙ pad-front mostOpens (getD (s .rows) i none .row .opens) few in
+          ap₂ (λ (c b : List ℕ). take (getD c 1 0) (drop 1 b)) content-is body-is ∙ pad-front mostOpens (getD (s .rows) i none .row .opens) few in
           λ t. record {
             permission = getD (content-is t) 0 0;
             row = record { denied = getD (body-is t) 0 0; opens = opens t };
@@ -91,8 +91,8 @@ module _ (s : State) where
   unfolding heldBy
   held-words most few =
       let rows : entriesFrom (wordsOf s) 0 (rowsUsed (wordsOf s)) ≡ s .rows =
-          ap (entriesFrom (wordsOf s) 0) used-is
-          ∙ entries-are (wordsOf s) (s .rows) 0 (λ k u. ap (entryAt (wordsOf s)) (zero-add k) ∙ entry-is most k u (few k u)) in
+      ap (entriesFrom (wordsOf s) 0) used-is
+      ∙ entries-are (wordsOf s) (s .rows) 0 (λ k u. ap (entryAt (wordsOf s)) (zero-add k) ∙ entry-is most k u (few k u)) in
       λ t. record { roles = roles-is t; rows = rows t }
 
 -- ---- the state that words hold
@@ -142,18 +142,18 @@ module _ (ws : List ℕ) (long : length ws ≡ areaWords) (used : rowsUsed ws �
       let es = entriesFrom ws 0 (rowsUsed ws) in
       let u = rowsUsed ws in
       let cs : each content es ≡ take (u * contentWords) (contents ws) =
-          each-cells content contentWords content-wide ws (contents ws) 0 u (λ j a b. content-back j (omega arith) (rows j (omega arith) .0))
-          ∙ ap (λ (k : ℕ). take (u * contentWords) (drop k (contents ws))) (zero-mul contentWords) in
+      each-cells content contentWords content-wide ws (contents ws) 0 u (λ j a b. content-back j (omega arith) (rows j (omega arith) .0))
+      ∙ ap (λ (k : ℕ). take (u * contentWords) (drop k (contents ws))) (zero-mul contentWords) in
       let bs : each body es ≡ take (u * bodyWords) (bodies ws) =
-          each-cells body bodyWords body-wide ws (bodies ws) 0 u (λ j a b. let r = rows j (omega arith) in body-back j (omega arith) (r .0) (r .1))
-          ∙ ap (λ (k : ℕ). take (u * bodyWords) (drop k (bodies ws))) (zero-mul bodyWords) in
+      each-cells body bodyWords body-wide ws (bodies ws) 0 u (λ j a b. let r = rows j (omega arith) in body-back j (omega arith) (r .0) (r .1))
+      ∙ ap (λ (k : ℕ). take (u * bodyWords) (drop k (bodies ws))) (zero-mul bodyWords) in
       let c : pad (mostRows * contentWords) (each content es) ≡ contents ws =
-          ap (pad (mostRows * contentWords)) cs ∙ pad-take (mostRows * contentWords) (u * contentWords) (contents ws) contents-long (omega arith) zc in
+      ap (pad (mostRows * contentWords)) cs ∙ pad-take (mostRows * contentWords) (u * contentWords) (contents ws) contents-long (omega arith) zc in
       let b : pad (mostRows * bodyWords) (each body es) ≡ bodies ws =
-          ap (pad (mostRows * bodyWords)) bs ∙ pad-take (mostRows * bodyWords) (u * bodyWords) (bodies ws) bodies-long (omega arith) zb in
+      ap (pad (mostRows * bodyWords)) bs ∙ pad-take (mostRows * bodyWords) (u * bodyWords) (bodies ws) bodies-long (omega arith) zb in
       ap₂ (λ (n : ℕ) (l : List ℕ). roleCount ws ∷ n ∷ l) (length-entries ws 0 u) (
-        ap₂ (λ (x y : List ℕ). x ++ y) c (b ∙ sym (drop-drop (mostRows * contentWords) contentsAt ws))
-        ∙ take-append-drop (mostRows * contentWords) (drop contentsAt ws)
+      ap₂ (λ (x y : List ℕ). x ++ y) c (b ∙ sym (drop-drop (mostRows * contentWords) contentsAt ws))
+      ∙ take-append-drop (mostRows * contentWords) (drop contentsAt ws)
       )
       ∙ split ws long
     where

@@ -1,1 +1,21 @@
-// The lent area: the check of it.
+// The lent area: its numbers, and the check of it.
+use meaning::MOST_OPENS;
+
+pub const MOST_ROLES: u64 = 64;
+
+pub const MOST_ROWS: usize = 128;
+
+pub const LAST_PERMISSION: u64 = 4294967295;
+
+// In words: an entry of the contents, a body, where the contents and the bodies start, the area.
+pub const CONTENT_WORDS: usize = 2;
+
+pub const BODY_WORDS: usize = 1 + MOST_OPENS;
+
+pub const CONTENTS_AT: usize = 2;
+
+pub const BODIES_AT: usize = CONTENTS_AT + MOST_ROWS * CONTENT_WORDS;
+
+pub const AREA_WORDS: usize = BODIES_AT + MOST_ROWS * BODY_WORDS;
+
+pub const AREA_BYTES: usize = AREA_WORDS * 8;

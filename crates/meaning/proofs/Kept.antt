@@ -13,7 +13,7 @@ use Rattle.meaning.specs.Events.{about, known}
 use Rattle.meaning.specs.Lists.{Mem, put}
 use Rattle.meaning.specs.Rows.{Row, blank, Good, hasPart, losing, apart, reduce, denying, allowing, clearing, giving, withdrawing, contradicts, step}
 use Rattle.meaning.proofs.ListLaws.{put-law, put-ascending, ascending-ext}
-use Rattle.meaning.proofs.OpenLaws.{Least, noPart-law, losing-law, apart-law, apart-ascending, reduce-law, reduce-ascending}
+use Rattle.meaning.proofs.OpenLaws.{Least, noPart-law, losing-law, apart-law, apart-ascending, reduce-law, reduce-least, reduce-ascending}
 use Rattle.meaning.proofs.Steps.{known-below}
 use Rattle.meaning.specs.declared.Happening.{Happening}
 use Rattle.meaning.specs.declared.Happening.the-variants.{Allow, Deny, Given, Withdrawn}
@@ -36,7 +36,7 @@ reduced-good n d l b f =
       nonempty = λ o m. from o m .nonempty;
       apart-from-denied = λ o m. from o m .apart-from-denied;
       ascending = reduce-ascending l;
-      no-part = λ o p m k t. reduce-law l p .0 k .1 o (reduce-law l o .0 m .0) t;
+      no-part = λ o p m k t. reduce-least l p .0 k .1 o (reduce-law l o .0 m .0) t;
     }
 
 -- what is left of s without d, where s is not part of d
@@ -142,5 +142,5 @@ given-opens n r w g =
     ap (λ (z : ℕ). reduce (z ∷ l)) e
     ∙ ascending-ext (reduce (u ∷ l)) (put u l) (reduce-ascending (u ∷ l)) (put-ascending u l (k .ascending)) (λ o. (
       (λ m. put-law u l o .1 (reduce-law (u ∷ l) o .0 m .0)),
-      λ m. reduce-law (u ∷ l) o .1 (put-law u l o .0 m, least o (put-law u l o .0 m)),
+      λ m. reduce-least (u ∷ l) o .1 (put-law u l o .0 m, least o (put-law u l o .0 m)),
     ))

@@ -4,6 +4,7 @@ pub mod OpenLaws
 pub mod Steps
 pub mod Kept
 pub mod Verdicts
+pub mod Answers
 pub mod Trails
 pub mod Canonical
 pub mod Readings

@@ -123,10 +123,14 @@ module _ (all : List ℕ) where
   length-reduceBy [] = omega arith
   length-reduceBy (o ∷ l) = length-reduceBy-cond (hasProperPart o all) o (length l) (reduceBy all l) (length-reduceBy l)
 
--- the reduced list has exactly the sets of which no other is a part
-pub reduce-law : (l : List ℕ) (x : ℕ) → Mem x (reduce l) ↔ (Mem x l × Least x l)
+-- the reduced list has exactly the sets that have no other as a proper part
+pub reduce-law : (l : List ℕ) (x : ℕ) → Mem x (reduce l) ↔ (Mem x l × T (not (hasProperPart x l)))
 unfolding reduce
-reduce-law l x = Iff·trans (reduceBy-law l l x) (
+reduce-law l = reduceBy-law l l
+
+-- that is, of which no other is a part
+pub reduce-least : (l : List ℕ) (x : ℕ) → Mem x (reduce l) ↔ (Mem x l × Least x l)
+reduce-least l x = Iff·trans (reduce-law l x) (
   (λ p. (p .0, noProperPart-law x l .0 (p .1))),
   λ p. (p .0, noProperPart-law x l .1 (p .1)),
 )
@@ -153,19 +157,8 @@ reduce-part l x m = from (suc x) x (omega arith) m
         let ne = p .3 in
         let r = from k (p .0) (omega arith) (p .1) in
         (r .0, r .1, partOf-trans (r .0) (p .0) x (r .2) (p .2)))
-        (λ t. (x, reduce-law l x .1 (m, noProperPart-law x l .0 t), partOf-refl x))
+        (λ t. (x, reduce-law l x .1 (m, t), partOf-refl x))
         (T? (hasProperPart x l))
-
--- an ascending list of which none is part of another is reduced already
-pub reduce-stays : (l : List ℕ) → Ascending l → ((o p : ℕ) → Mem o l → Mem p l → T (partOf o p) → o ≡ p) → reduce l ≡ l
-reduce-stays l r f = ascending-ext (reduce l) l (reduce-ascending l) r (λ x. ((λ m. reduce-law l x .0 m .0), (λ m. reduce-law l x .1 (m, λ y k t. f y x k m t))))
-
--- reducing goes by the members alone
-pub reduce-same : (l k : List ℕ) → ((x : ℕ) → Mem x l ↔ Mem x k) → reduce l ≡ reduce k
-reduce-same l k e = ascending-ext (reduce l) (reduce k) (reduce-ascending l) (reduce-ascending k) (λ x. (
-  (λ m. let p = reduce-law l x .0 m in reduce-law k x .1 (e x .0 (p .0), λ o q t. p .1 o (e o .1 q) t)),
-  λ m. let p = reduce-law k x .0 m in reduce-law l x .1 (e x .1 (p .0), λ o q t. p .1 o (e o .0 q) t),
-))
 
 -- ---- the holder sets that share a role with each set of the list
 

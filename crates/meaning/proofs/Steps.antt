@@ -21,11 +21,11 @@ unfolding allowing
 allowing-leaves n s w h =
     let x = without s (w .denied) in (
       (λ m. let all = reduce-meets (x ∷ w .opens) h .0 (m .meets) in (
-        record { below = m .below; denies = m .denies; meets = λ o k. all o (inr k) },
+        record { holder = m .holder; denies = m .denies; meets = λ o k. all o (inr k) },
         shares-without h s (w .denied) (m .denies) .0 (all x (inl refl)),
       )),
       λ p. let m = p .0 in record {
-        below = m .below;
+        holder = m .holder;
         denies = m .denies;
         meets = reduce-meets (x ∷ w .opens) h .1 (λ o. ⊎-elim
             (λ e. subst⁻¹ (λ (z : ℕ). T (shares h z)) e (shares-without h s (w .denied) (m .denies) .1 (p .1)))
@@ -40,14 +40,14 @@ denying-leaves n s w h =
     let l = w .opens in (
       (λ m. let ns : ¬ (T (shares h s)) = λ k. m .denies (shares-joined h d s .1 (inr k)) in (
         record {
-          below = m .below;
+          holder = m .holder;
           denies = λ k. m .denies (shares-joined h d s .1 (inl k));
           meets = losing-meets s l h ns .0 (reduce-meets (losing s l) h .0 (m .meets));
         },
         ns,
       )),
       λ p. let m = p .0 in record {
-        below = m .below;
+        holder = m .holder;
         denies = λ k. ⊎-elim (m .denies) (p .1) (shares-joined h d s .0 k);
         meets = reduce-meets (losing s l) h .1 (losing-meets s l h (p .1) .1 (m .meets));
       },
@@ -74,7 +74,7 @@ module _ (n : ℕ) (w : Row) (g : Good n w) where
             let h₀ = without h d in (
               h₀,
               record {
-                below = without-below n h d (m′ .below);
+                holder = without-below n h d (m′ .holder);
                 denies = without-apart h d;
                 meets = λ o k. ⊎-elim
                     (λ i. shares-at h₀ o r (in-without h d r .1 (hr, open-not-denied o r k i)) i)
@@ -96,7 +96,7 @@ module _ (n : ℕ) (w : Row) (g : Good n w) where
             let h′ = joined h₀ u in
             subst (Leaves n (giving u u w)) (p .2) (law h′ .1 (
               record {
-                below = joined-below n h₀ u (m .below) (single-below n r rn);
+                holder = joined-below n h₀ u (m .holder) (single-below n r rn);
                 denies = λ k. let q = shares-law h′ (without d u) .0 k in
                     let c = in-without d u (q .0) .0 (q .2) in
                     ⊎-elim (λ j. m .denies (shares-at h₀ d (q .0) j (c .0))) (c .1) (in-joined h₀ u (q .0) .0 (q .1));
@@ -118,7 +118,7 @@ module _ (n : ℕ) (w : Row) (g : Good n w) where
             let nu : ¬ (T (shares h u)) = λ k. m .denies (shares-joined h d u .1 (inr k)) in (
               h₀,
               record {
-                below = joined-below n h x (m .below) (without-below n u d un);
+                holder = joined-below n h x (m .holder) (without-below n u d un);
                 denies = λ k. let q = shares-law h₀ d .0 k in
                     ⊎-elim (λ i. nd (shares-at h d (q .0) i (q .2))) (λ i. in-without u d (q .0) .0 i .1 (q .2)) (in-joined h x (q .0) .0 (q .1));
                 meets = λ o k. ⊎-elim
@@ -138,7 +138,7 @@ module _ (n : ℕ) (w : Row) (g : Good n w) where
             let m = p .1 in
             let h′ = without h₀ u in
             subst (Leaves n (withdrawing u w)) (p .2) (record {
-              below = without-below n h₀ u (m .below);
+              holder = without-below n h₀ u (m .holder);
               denies = λ k. ⊎-elim
                   (λ t. let q = shares-law h′ d .0 t in m .denies (shares-at h₀ d (q .0) (in-without h₀ u (q .0) .0 (q .1) .0) (q .2)))
                   (without-apart h₀ u)

@@ -1,22 +1,22 @@
--- What this crate shows, and nothing else: each theorem with its statement, the proof a citation. Assumes nothing.
-use mathlib.Core.Path.{_≡_, refl}
+-- What this crate shows, and nothing else: each theorem with its statement, the proof a citation or a short assembly. Assumes nothing.
+use mathlib.Core.Path.{_≡_, sym, subst}
 use mathlib.Core.Bool.{not}
-use mathlib.Core.List.{List, [], _∷_, _++_}
+use mathlib.Core.List.{List, _∷_, _++_}
 use mathlib.Core.Logic.{_↔_, Iff·trans, Iff·symm}
-use Prim.Native.Nat.{ℕ, _^_, _<_}
+use Prim.Native.Nat.{ℕ}
 use native.Mathlib.Omega.{arith}
 use lib.Dec.{T}
 use lib.ListN.{length}
-use Rattle.roles.specs.Sets.{single, partOf}
-use Rattle.meaning.specs.Events.{known, agrees, Effect, Reached, Possible, Decides, Reply}
+use Rattle.roles.specs.Sets.{single}
+use Rattle.meaning.specs.Events.{known, agrees, Effect, Reached, HolderSet, Possible, Decides, Reply}
 use Rattle.meaning.specs.Lists.{Mem, Ascending, put}
-use Rattle.meaning.specs.Rows.{Row, blank, Leaves, Good, mostOpens, apart, reduce, giving, contradicts, step, rowAfter, Recorded, decide}
+use Rattle.meaning.specs.Rows.{Row, blank, Leaves, Good, mostOpens, fits, hasProperPart, apart, reduce, giving, contradicts, step, settle, Settles, rowAfter, Recorded, decide}
 use Rattle.meaning.specs.Readings.{Readings}
 use Rattle.meaning.proofs.OpenLaws as opens
-use Rattle.meaning.proofs.OpenLaws.{Least}
 use Rattle.meaning.proofs.Steps as steps
 use Rattle.meaning.proofs.Kept as kept
 use Rattle.meaning.proofs.Verdicts as verdicts
+use Rattle.meaning.proofs.Answers as answers
 use Rattle.meaning.proofs.Trails as trails
 use Rattle.meaning.proofs.Canonical as canon
 use Rattle.meaning.proofs.Readings as read
@@ -37,6 +37,16 @@ contradicts-law = verdicts.contradicts-law
 pub step-good : (n : ℕ) (w : Row) (e : Happening) → Good n w → T (known n e) → T (not (contradicts e w)) → Good n (step e w)
 step-good = kept.step-good
 
+-- each answer exactly on its ground, with the row afterwards; that row is good, and fits where it fitted before
+pub settle-law : (n : ℕ) (e : Happening) (w : Row) → Good n w → T (known n e) → Settles n e w (settle e w)
+settle-law = answers.settle-law
+
+pub settle-good : (n : ℕ) (e : Happening) (w : Row) → Good n w → T (known n e) → Good n (settle e w .row)
+settle-good = answers.settle-good
+
+pub settle-fits : (e : Happening) (w : Row) → T (fits w) → T (fits (settle e w .row))
+settle-fits = answers.settle-fits
+
 -- on a good row {r} becomes an open set beside the others, and reducing changes nothing
 pub given-opens : (n r : ℕ) (w : Row) → Good n w → giving (single r) (single r) w .opens ≡ put (single r) (apart (single r) (w .opens))
 given-opens = kept.given-opens
@@ -54,8 +64,23 @@ after-leaves = trails.after-leaves
 pub after-good : (n : ℕ) (w : Row) (es : List Happening) → Good n w → Recorded n w es → Good n (rowAfter w es)
 after-good = trails.after-good
 
+-- a possible holder set is always left
+pub some-possible : (n : ℕ) (es : List Happening) → Recorded n blank es → (h : ℕ) × Possible n es h
+some-possible n es r =
+    let w = rowAfter blank es in
+    (verdicts.largest n w, row-leaves n es r (verdicts.largest n w) .0 (verdicts.largest-left n w (after-good n blank es (kept.blank-good n) r)))
+
+-- a contradiction after a trail exactly when no possible holder set agrees
+pub trail-contradicts : (n : ℕ) (es : List Happening) → Recorded n blank es → (e : Happening) → T (known n e)
+    → T (contradicts e (rowAfter blank es)) ↔ ((h : ℕ) → Possible n es h → ¬ (T (agrees e h)))
+trail-contradicts n es r e k =
+    let law = contradicts-law n (rowAfter blank es) e (after-good n blank es (kept.blank-good n) r) k in (
+      (λ t h p. law .0 t h (row-leaves n es r h .1 p)),
+      λ f. law .1 (λ h m. f h (row-leaves n es r h .0 m)),
+    )
+
 -- demand 2 for one permission: 10, 11 and 12 exactly on their grounds
-pub row-decides : (n : ℕ) (es : List Happening) → Recorded n blank es → (s : ℕ) → s < 2 ^ n → Decides (Possible n es) s (decide (rowAfter blank es) s)
+pub row-decides : (n : ℕ) (es : List Happening) → Recorded n blank es → (s : ℕ) → HolderSet n s → Decides (Possible n es) s (decide (rowAfter blank es) s)
 row-decides n es r s b =
     verdicts.decides-same (Leaves n (rowAfter blank es)) (Possible n es) s (decide (rowAfter blank es) s) (row-leaves n es r)
     (verdicts.decide-law n (rowAfter blank es) (after-good n blank es (kept.blank-good n) r) s b)
@@ -66,7 +91,7 @@ decides-one = verdicts.decides-one
 
 -- neighbouring replies may be swapped
 pub replies-swap : (n : ℕ) (xs ys : List Happening) (e f : Happening) → Reply e → Reply f → (h : ℕ) → Possible n (xs ++ e ∷ f ∷ ys) h ↔ Possible n (xs ++ f ∷ e ∷ ys) h
-replies-swap n = trails.reached-swap (λ h₀. h₀ < 2 ^ n)
+replies-swap n = trails.reached-swap (HolderSet n)
 
 -- ---- one form for each meaning
 
@@ -74,15 +99,22 @@ replies-swap n = trails.reached-swap (λ h₀. h₀ < 2 ^ n)
 pub canonical : (n : ℕ) (v w : Row) → Good n v → Good n w → ((h : ℕ) → Leaves n v h ↔ Leaves n w h) → v ≡ w
 canonical = canon.canonical
 
--- so the row depends on nothing but the possible holder sets of the trail
+-- so two trails lead to one row exactly when they leave the same holder sets possible
 pub same-row : (n : ℕ) (es fs : List Happening) → Recorded n blank es → Recorded n blank fs
-    → ((h : ℕ) → Possible n es h ↔ Possible n fs h) → rowAfter blank es ≡ rowAfter blank fs
-same-row n es fs r q e =
-    canonical n (rowAfter blank es) (rowAfter blank fs) (after-good n blank es (kept.blank-good n) r) (after-good n blank fs (kept.blank-good n) q)
-    (λ h. Iff·trans (row-leaves n es r h) (Iff·trans (e h) (Iff·symm (row-leaves n fs q h))))
+    → (rowAfter blank es ≡ rowAfter blank fs) ↔ ((h : ℕ) → Possible n es h ↔ Possible n fs h)
+same-row n es fs r q = (
+  (λ e h. Iff·trans (Iff·symm (row-leaves n es r h)) (subst (λ (w : Row). Leaves n w h ↔ Possible n fs h) (sym e) (row-leaves n fs q h))),
+  λ e. canonical n (rowAfter blank es) (rowAfter blank fs) (after-good n blank es (kept.blank-good n) r) (after-good n blank fs (kept.blank-good n) q)
+      (λ h. Iff·trans (row-leaves n es r h) (Iff·trans (e h) (Iff·symm (row-leaves n fs q h)))),
+)
+
+-- and swapped replies give the same row
+pub swap-row : (n : ℕ) (xs ys : List Happening) (e f : Happening) → Reply e → Reply f
+    → Recorded n blank (xs ++ e ∷ f ∷ ys) → Recorded n blank (xs ++ f ∷ e ∷ ys) → rowAfter blank (xs ++ e ∷ f ∷ ys) ≡ rowAfter blank (xs ++ f ∷ e ∷ ys)
+swap-row n xs ys e f r q x y = same-row n (xs ++ e ∷ f ∷ ys) (xs ++ f ∷ e ∷ ys) x y .1 (replies-swap n xs ys e f r q)
 
 -- reduce keeps exactly the sets of which no other is a proper part, each once, ascending
-pub reduce-law : (l : List ℕ) (x : ℕ) → Mem x (reduce l) ↔ (Mem x l × Least x l)
+pub reduce-law : (l : List ℕ) (x : ℕ) → Mem x (reduce l) ↔ (Mem x l × T (not (hasProperPart x l)))
 reduce-law = opens.reduce-law
 
 pub reduce-ascending : (l : List ℕ) → Ascending (reduce l)
@@ -95,5 +127,5 @@ pub readings : Readings
 readings = read.readings
 
 -- a good row with 15 open sets
-pub full-row : (w : Row) × Good 16 w × (length (w .opens) ≡ mostOpens)
+pub full-row : (w : Row) × Good 16 w × (length (w .opens) ≡ 15)
 full-row = (record { denied = 0; opens = one-role.singles 0 mostOpens }, one-role.singles-good 16 mostOpens (omega arith), one-role.length-singles 0 mostOpens)

@@ -2,13 +2,14 @@
 use mathlib.Core.Path.{_≡_, refl, sym, ap, _∙_, subst, subst⁻¹}
 use mathlib.Core.List.{List, [], _∷_, _++_}
 use mathlib.Core.Logic.{_↔_, Iff·trans}
-use Prim.Native.Nat.{ℕ, _^_, _<_}
+use Prim.Native.Nat.{ℕ}
 use lib.Dec.{T}
 use Rattle.roles.proofs.Laws.{shares-empty}
-use Rattle.meaning.specs.Events.{agrees, after, Effect, Becomes, Reached, Possible, Reply}
+use Rattle.meaning.specs.Events.{agrees, after, Effect, Becomes, Reached, HolderSet, Possible, Reply}
 use Rattle.meaning.specs.Rows.{Row, blank, Leaves, Good, step, rowAfter, Recorded}
 use Rattle.meaning.proofs.Steps.{step-leaves}
 use Rattle.meaning.proofs.Kept.{blank-good, step-good}
+use Rattle.meaning.proofs.Answers.{recorded⇒agrees}
 use Rattle.meaning.specs.declared.Happening.{Happening}
 use Rattle.meaning.specs.declared.Happening.the-variants.{Allow, Deny, Given, Withdrawn}
 
@@ -17,14 +18,14 @@ use Rattle.meaning.specs.declared.Happening.the-variants.{Allow, Deny, G
 pub after-good : (n : ℕ) (w : Row) (es : List Happening) → Good n w → Recorded n w es → Good n (rowAfter w es)
 unfolding rowAfter
 after-good n w [] g r = g
-after-good n w (e ∷ es) g r = after-good n (step e w) es (step-good n w e g (r .0) (r .1)) (r .2)
+after-good n w (e ∷ es) g r = after-good n (step e w) es (step-good n w e g (r .0) (recorded⇒agrees e w (r .1))) (r .2)
 
 pub after-leaves : (n : ℕ) (w : Row) (es : List Happening) → Good n w → Recorded n w es → (h : ℕ)
     → Leaves n (rowAfter w es) h ↔ Reached (Leaves n w) es h
 unfolding rowAfter
 after-leaves n w [] g r h = ((λ m. (h, m, refl)), (λ p. subst (Leaves n w) (p .2) (p .1)))
 after-leaves n w (e ∷ es) g r h =
-    let ih = after-leaves n (step e w) es (step-good n w e g (r .0) (r .1)) (r .2) h in
+    let ih = after-leaves n (step e w) es (step-good n w e g (r .0) (recorded⇒agrees e w (r .1))) (r .2) h in
     let st = step-leaves n w e g (r .0) in (
       (λ m. let p = ih .0 m in let i = st (p .0) .0 (p .1) in (i .0, i .1, (i .2, subst (λ (x : ℕ). Becomes es x h) (sym (i .3)) (p .2)))),
       λ p. ih .1 (after e (p .0), st (after e (p .0)) .1 (p .0, p .1, p .2 .0, refl), p .2 .1),
@@ -32,12 +33,12 @@ after-leaves n w (e ∷ es) g r h =
 
 -- ---- from no row: all sets of roles below n
 
-blank-leaves : (n h : ℕ) → h < 2 ^ n → Leaves n blank h
-blank-leaves n h b = record { below = b; denies = shares-empty h; meets = λ o m. absurd m }
+blank-leaves : (n h : ℕ) → HolderSet n h → Leaves n blank h
+blank-leaves n h b = record { holder = b; denies = shares-empty h; meets = λ o m. absurd m }
 
 pub row-leaves : (n : ℕ) (es : List Happening) → Recorded n blank es → (h : ℕ) → Leaves n (rowAfter blank es) h ↔ Possible n es h
 row-leaves n es r h = Iff·trans (after-leaves n blank es (blank-good n) r h) (
-  (λ p. (p .0, p .1 .below, p .2)),
+  (λ p. (p .0, p .1 .holder, p .2)),
   λ p. (p .0, blank-leaves n (p .0) (p .1), p .2),
 )
 

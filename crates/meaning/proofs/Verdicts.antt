@@ -1,13 +1,13 @@
 -- Contradictions and verdicts, by the holder sets that a good row leaves possible. Assumes nothing.
 use mathlib.Core.Path.{_≡_, refl, sym, _∙_, subst}
 use mathlib.Core.Bool.{Bool, true, false, not, cond}
-use mathlib.Core.Logic.{_↔_, inl, inr, ⊎-elim, Iff·trans, Iff·and, Iff·not}
-use Prim.Native.Nat.{ℕ, _^_, _<_}
+use mathlib.Core.Logic.{_↔_, inl, inr, ⊎-elim, Iff·trans}
+use Prim.Native.Nat.{ℕ, _<_}
 use lib.Dec.{T, T-not, eqb, eqb-refl}
 use Rattle.roles.specs.Sets.{In, allBelow, without, shares, partOf}
 use Rattle.roles.proofs.Member.{T?, in?, in-allBelow, in-without, shares-law, partOf-law, outside-law, below-law, some-in}
 use Rattle.roles.proofs.Laws.{shares-at, shares-partOf, allBelow-below, without-below, without-apart}
-use Rattle.meaning.specs.Events.{about, known, agrees, NoneShares, AllShare, Decides}
+use Rattle.meaning.specs.Events.{about, known, agrees, HolderSet, NoneShares, AllShare, OneShares, OneShares-not, Decides}
 use Rattle.meaning.specs.Lists.{Mem}
 use Rattle.meaning.specs.Rows.{Row, Leaves, Good, hasPart, contradicts, decide}
 use Rattle.meaning.proofs.OpenLaws.{hasPart-law, noPart-law}
@@ -30,7 +30,7 @@ module _ (n : ℕ) (w : Row) (g : Good n w) where
   pub largest-left : Leaves n w (largest n w)
   unfolding largest
   largest-left = record {
-    below = without-below n (allBelow n) (w .denied) (allBelow-below n);
+    holder = without-below n (allBelow n) (w .denied) (allBelow-below n);
     denies = without-apart (allBelow n) (w .denied);
     meets = λ o m. let p = some-in o (g .nonempty o m) in shares-at (largest n w) o (p .0) (open-in-largest o (p .0) m (p .1)) (p .1);
   }
@@ -40,14 +40,14 @@ module _ (n : ℕ) (w : Row) (g : Good n w) where
   largest-without-left s t =
       let h = without (largest n w) s in
       record {
-        below = without-below n (largest n w) s (largest-left .below);
+        holder = without-below n (largest n w) s (largest-left .holder);
         denies = λ k. let p = shares-law h (w .denied) .0 k in largest-left .denies (shares-at (largest n w) (w .denied) (p .0) (in-without (largest n w) s (p .0) .0 (p .1) .0) (p .2));
         meets = λ o m. let p = outside-law o s (noPart-law s (w .opens) t o m) in
             shares-at h o (p .0) (in-without (largest n w) s (p .0) .1 (open-in-largest o (p .0) m (p .1), p .2)) (p .1);
       }
 
   -- s is part of the denied set exactly when no possible holder set shares a role with s
-  pub denied-law : (s : ℕ) → s < 2 ^ n → T (partOf s (w .denied)) ↔ NoneShares (Leaves n w) s
+  pub denied-law : (s : ℕ) → HolderSet n s → T (partOf s (w .denied)) ↔ NoneShares (Leaves n w) s
   denied-law s b = (
     (λ k h m t. m .denies (shares-partOf h s (w .denied) k t)),
     λ f. partOf-law s (w .denied) .1 (λ r i. ⊎-elim (λ d. d)
@@ -78,48 +78,52 @@ contradicts-law n w (Withdrawn r) g k = ((λ t. absurd t), (λ f. f (largest n w
 
 -- ---- the answer
 
-unlike : {a b : ℕ} {A : Type 0} → T (not (eqb a b)) → a ≡ b → A
+pub unlike : {a b : ℕ} {A : Type 0} → T (not (eqb a b)) → a ≡ b → A
 unlike {a} {b} t e = absurd (T-not (eqb a b) t (subst (λ (z : ℕ). T (eqb a z)) e (eqb-refl a)))
 
 -- two grounds that exclude each other, the first of which is asked first
-ladder : (P : ℕ → Type 0) (s : ℕ) (a b : Bool) → T a ↔ NoneShares P s → T b ↔ AllShare P s → (NoneShares P s → ¬ (AllShare P s)) → Decides P s (cond a 10 (cond b 11 12))
-ladder P s true b d a x = record {
+ladder : (P : ℕ → Type 0) (s : ℕ) (a b : Bool) → T a ↔ NoneShares P s → T b ↔ AllShare P s → (NoneShares P s → ¬ (AllShare P s))
+    → (T (not a) → OneShares P s) → (T (not b) → OneShares-not P s) → Decides P s (cond a 10 (cond b 11 12))
+ladder P s true b d a x y z = record {
   one-of = inl refl;
   deny = ((λ e. d .0 tt), (λ p. refl));
   allow = (unlike tt, (λ p. absurd (x (d .0 tt) p)));
-  undecided = (unlike tt, (λ p. absurd (p .0 (d .0 tt))));
+  undecided = (unlike tt, (λ p. absurd (d .0 tt (p .0 .0) (p .0 .1) (p .0 .2))));
 }
-ladder P s false true d a x = record {
+ladder P s false true d a x y z = record {
   one-of = inr (inl refl);
   deny = (unlike tt, (λ p. absurd (d .1 p)));
   allow = ((λ e. a .0 tt), (λ p. refl));
-  undecided = (unlike tt, (λ p. absurd (p .1 (a .0 tt))));
+  undecided = (unlike tt, (λ p. absurd (p .1 .2 (a .0 tt (p .1 .0) (p .1 .1)))));
 }
-ladder P s false false d a x = record {
+ladder P s false false d a x y z = record {
   one-of = inr (inr refl);
   deny = (unlike tt, (λ p. absurd (d .1 p)));
   allow = (unlike tt, (λ p. absurd (a .1 p)));
-  undecided = ((λ e. (d .1, a .1)), (λ p. refl));
+  undecided = ((λ e. (y tt, z tt)), (λ p. refl));
 }
 
 -- a good row answers a session as the holder sets that it leaves possible force
-pub decide-law : (n : ℕ) (w : Row) → Good n w → (s : ℕ) → s < 2 ^ n → Decides (Leaves n w) s (decide w s)
+pub decide-law : (n : ℕ) (w : Row) → Good n w → (s : ℕ) → HolderSet n s → Decides (Leaves n w) s (decide w s)
 unfolding decide
 decide-law n w g s b =
+    let top = largest n w in
     ladder (Leaves n w) s (partOf s (w .denied)) (hasPart s (w .opens)) (denied-law n w g s b) (allowed-law n w g s)
-    (λ d a. d (largest n w) (largest-left n w g) (a (largest n w) (largest-left n w g)))
+    (λ d a. d top (largest-left n w g) (a top (largest-left n w g)))
+    (λ t. let r = outside-law s (w .denied) t in (top, largest-left n w g, shares-at top s (r .0) (in-largest n w (r .0) (below-law n s .0 b (r .0) (r .1)) (r .2)) (r .1)))
+    (λ t. (without top s, largest-without-left n w g s t, without-apart top s))
 
 -- holder sets that are the same force the same answer
 pub decides-same : (P Q : ℕ → Type 0) (s a : ℕ) → ((h : ℕ) → P h ↔ Q h) → Decides P s a → Decides Q s a
-decides-same P Q s a e d =
-    let none : NoneShares P s ↔ NoneShares Q s = ((λ f h q. f h (e h .1 q)), (λ f h p. f h (e h .0 p))) in
-    let every : AllShare P s ↔ AllShare Q s = ((λ f h q. f h (e h .1 q)), (λ f h p. f h (e h .0 p))) in
-    record {
-      one-of = d .one-of;
-      deny = Iff·trans (d .deny) none;
-      allow = Iff·trans (d .allow) every;
-      undecided = Iff·trans (d .undecided) (Iff·and (Iff·not none) (Iff·not every));
-    }
+decides-same P Q s a e d = record {
+  one-of = d .one-of;
+  deny = Iff·trans (d .deny) ((λ f h q. f h (e h .1 q)), (λ f h p. f h (e h .0 p)));
+  allow = Iff·trans (d .allow) ((λ f h q. f h (e h .1 q)), (λ f h p. f h (e h .0 p)));
+  undecided = Iff·trans (d .undecided) (
+    (λ x. ((x .0 .0, e (x .0 .0) .0 (x .0 .1), x .0 .2), (x .1 .0, e (x .1 .0) .0 (x .1 .1), x .1 .2))),
+    λ x. ((x .0 .0, e (x .0 .0) .1 (x .0 .1), x .0 .2), (x .1 .0, e (x .1 .0) .1 (x .1 .1), x .1 .2)),
+  );
+}
 
 -- and no two answers
 pub decides-one : (P : ℕ → Type 0) (s a b : ℕ) → Decides P s a → Decides P s b → a ≡ b

@@ -6,8 +6,9 @@
 --     Effect P e           the holder sets of P that agree with the event, as they are after it
 --     Becomes es h₀ h      h₀ agrees with every reply of the trail as it arrives, and becomes h by its updates
 --     Reached P es         what the starting sets P become along the trail
---     Possible n es        the possible holder sets of a trail: what the sets of roles below n become
---     NoneShares, AllShare    no set, every set of P shares a role with the session
+--     HolderSet n h        a holder set: any set of roles below n
+--     Possible n es        the possible holder sets of a trail: what the holder sets become along it
+--     NoneShares, AllShare, OneShares, OneShares-not    no set, every set, some set of P shares a role with the session; some does not
 --     Decides P s a        a is the answer to the session s that the holder sets P force
 --     Reply e              the event is a reply, and no update
 use mathlib.Core.Path.{_≡_}
@@ -53,8 +54,11 @@ Becomes (e ∷ es) h₀ h = T (agrees e h₀) × Becomes es (after e h₀) h
 abbrev pub Reached : (ℕ → Type 0) → List Happening → ℕ → Type 0
 Reached P es h = (h₀ : ℕ) × P h₀ × Becomes es h₀ h
 
+abbrev pub HolderSet : ℕ → ℕ → Type 0
+HolderSet n h = h < 2 ^ n
+
 abbrev pub Possible : ℕ → List Happening → ℕ → Type 0
-Possible n = Reached (λ h₀. h₀ < 2 ^ n)
+Possible n = Reached (HolderSet n)
 
 abbrev pub NoneShares : (ℕ → Type 0) → ℕ → Type 0
 NoneShares P s = (h : ℕ) → P h → ¬ (T (shares h s))
@@ -62,12 +66,18 @@ NoneShares P s = (h : ℕ) → P h → ¬ (T (shares h s))
 abbrev pub AllShare : (ℕ → Type 0) → ℕ → Type 0
 AllShare P s = (h : ℕ) → P h → T (shares h s)
 
+abbrev pub OneShares : (ℕ → Type 0) → ℕ → Type 0
+OneShares P s = (h : ℕ) × P h × T (shares h s)
+
+abbrev pub OneShares-not : (ℕ → Type 0) → ℕ → Type 0
+OneShares-not P s = (h : ℕ) × P h × ¬ (T (shares h s))
+
 -- 10 deny, 11 allow, 12 undecided, each exactly on its ground
 pub record Decides (P : ℕ → Type 0) (s a : ℕ) : Type 0 where
   pub one-of : (a ≡ 10) ⊎ ((a ≡ 11) ⊎ (a ≡ 12))
   pub deny : (a ≡ 10) ↔ NoneShares P s
   pub allow : (a ≡ 11) ↔ AllShare P s
-  pub undecided : (a ≡ 12) ↔ (¬ (NoneShares P s) × ¬ (AllShare P s))
+  pub undecided : (a ≡ 12) ↔ (OneShares P s × OneShares-not P s)
 
 abbrev pub Reply : Happening → Type 0
 Reply (Allow s) = Unit {0}

@@ -1,15 +1,15 @@
--- The readings of document 01 marked P that speak of one row, and the worked case of document 001, section 3.4, for n 8.
---     roles rs             the set of the roles of a list
+-- The readings of document 01 marked P, as far as they speak of one row (128 rows come with the area), and the worked case of document 001, section 3.4, for n 8.
+--     bitsOf, roles rs     the set of the roles of a list
 --     Decided es s a       the trail is recorded, and then the session s is answered a
---     Answered es e a      the trail is recorded, and then the event is answered a: 0 recorded, 6 contradiction
+--     Answered es e a      the trail is recorded, and then the event is answered a
 --     Opens es l           the trail is recorded, and then the open sets are those of l
+--     worked               the trail of the worked case
 use mathlib.Core.Path.{_≡_}
-use mathlib.Core.Bool.{cond}
 use mathlib.Core.List.{List, [], _∷_, map}
 use Prim.Native.Nat.{ℕ}
 use Rattle.roles.specs.Sets.{single, joined}
 use Rattle.roles.specs.declared.RoleSet.{RoleSet}
-use Rattle.meaning.specs.Rows.{Row, blank, contradicts, rowAfter, Recorded, decide}
+use Rattle.meaning.specs.Rows.{blank, settle, rowAfter, Recorded, decide}
 use Rattle.meaning.specs.declared.Happening.{Happening}
 use Rattle.meaning.specs.declared.Happening.the-variants.{Allow, Deny, Given, Withdrawn}
 
@@ -24,7 +24,7 @@ abbrev pub Decided : List Happening → List ℕ → ℕ → Type 0
 Decided es s a = Recorded 8 blank es × (decide (rowAfter blank es) (bitsOf s) ≡ a)
 
 abbrev pub Answered : List Happening → Happening → ℕ → Type 0
-Answered es e a = Recorded 8 blank es × (cond (contradicts e (rowAfter blank es)) 6 0 ≡ a)
+Answered es e a = Recorded 8 blank es × (settle e (rowAfter blank es) .answer ≡ a)
 
 abbrev pub Opens : List Happening → List (List ℕ) → Type 0
 Opens es l = Recorded 8 blank es × (rowAfter blank es .opens ≡ map bitsOf l)

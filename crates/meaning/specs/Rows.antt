@@ -1,30 +1,32 @@
 -- A row: what is kept of one permission, which holder sets it leaves possible, and the steps that keep it so.
 --     Row, blank           the denied set and the open sets; a permission without a row has neither
 --     Leaves n w h         the row leaves the holder set h possible
---     Good n w             the layout rules for the sets of a row
+--     Good n w             the layout rules for the sets of a row; how many there may be, and that a row says something, comes with the area
 --     mostOpens, fits      a row has room for 15 open sets
 --     hasPart s l          some set of the list is part of s
 --     properPart o s       o is part of s and not s itself
 --     hasProperPart s l    some set of the list is a proper part of s
 --     losing s l           the sets of the list, each without s
 --     apart u l            the sets of the list that share no role with u
---     reduce l             the sets of the list that have no other of it as a proper part, each once, ascending
+--     reduceBy, reduce l   the sets of the list that have no other of it as a proper part, each once, ascending
 --     denying, allowing, clearing, giving, withdrawing    the steps, over plain sets
 --     contradicts e w      no holder set that the row leaves possible agrees with the event
 --     step e w             the row after the event
---     settle e w           the answer to the event, and the row afterwards
+--     Settled              an answer with the row afterwards: unchanged, or forgotten
+--     settle e w           the answer to the event: 6 contradiction, 0 recorded, else it does not fit (overflow)
 --     rowAfter w es        the row after a trail
---     Recorded n w es      every event of the trail names known roles and contradicts nothing when it arrives
+--     Recorded n w es      every event of the trail names known roles and is answered 0 when it arrives
+--     Settles n e w t      t is the answer and the row exactly on their grounds
 --     decide w s           the answer to a session: 10 deny, 11 allow, 12 undecided
 use mathlib.Core.Path.{_≡_}
 use mathlib.Core.Bool.{Bool, false, not, cond, _&&_}
 use mathlib.Core.List.{List, [], _∷_, map}
-use mathlib.Core.Logic.{_≢_}
-use Prim.Native.Nat.{ℕ, _^_, _<_}
+use mathlib.Core.Logic.{_↔_, _≢_, _⊎_}
+use Prim.Native.Nat.{ℕ, _^_, _≤_, _<_}
 use lib.Dec.{T, eqb, leb}
 use lib.ListN.{length}
 use Rattle.roles.specs.Sets.{single, joined, without, shares, partOf}
-use Rattle.meaning.specs.Events.{known}
+use Rattle.meaning.specs.Events.{HolderSet, known, agrees, Reply}
 use Rattle.meaning.specs.Lists.{Mem, Ascending, any, keep, put}
 use Rattle.meaning.specs.declared.Happening.{Happening}
 use Rattle.meaning.specs.declared.Happening.the-variants.{Allow, Deny, Given, Withdrawn}
@@ -38,7 +40,7 @@ abbrev pub blank : Row
 blank = record { denied = 0; opens = [] }
 
 pub record Leaves (n : ℕ) (w : Row) (h : ℕ) : Type 0 where
-  pub below : h < 2 ^ n
+  pub holder : HolderSet n h
   pub denies : ¬ (T (shares h (w .denied)))
   pub meets : (o : ℕ) → Mem o (w .opens) → T (shares h o)
 
@@ -95,7 +97,7 @@ allowing s w = record { denied = w .denied; opens = reduce (without s (w .denied
 unfoldable pub clearing : ℕ → Row → Row
 clearing u w = record { denied = without (w .denied) u; opens = apart u (w .opens) }
 
--- after that, j becomes an open set
+-- u is cleared, then j becomes an open set
 unfoldable pub giving : ℕ → ℕ → Row → Row
 giving j u w = allowing j (clearing u w)
 
@@ -143,7 +145,17 @@ rowAfter w (e ∷ es) = rowAfter (step e w) es
 
 abbrev pub Recorded : ℕ → Row → List Happening → Type 0
 Recorded n w [] = Unit {0}
-Recorded n w (e ∷ es) = T (known n e) × T (not (contradicts e w)) × Recorded n (step e w) es
+Recorded n w (e ∷ es) = T (known n e) × (settle e w .answer ≡ 0) × Recorded n (step e w) es
+
+-- what the answer to an event says, and what stands afterwards
+pub record Settles (n : ℕ) (e : Happening) (w : Row) (t : Settled) : Type 0 where
+  pub contradiction : (t .answer ≡ 6) ↔ ((h : ℕ) → Leaves n w h → ¬ (T (agrees e h)))
+  pub full : (t .answer ≡ 7) ↔ (Reply e × T (not (contradicts e w)) × (15 < length (step e w .opens)))
+  pub forgotten : (t .answer ≡ 8) ↔ (¬ (Reply e) × (15 < length (step e w .opens)))
+  pub recorded : (t .answer ≡ 0) ↔ (T (not (contradicts e w)) × (length (step e w .opens) ≤ 15))
+  pub row-recorded : t .answer ≡ 0 → t .row ≡ step e w
+  pub row-refused : (t .answer ≡ 6) ⊎ (t .answer ≡ 7) → t .row ≡ w
+  pub row-forgotten : t .answer ≡ 8 → t .row ≡ blank
 
 unfoldable pub decide : Row → ℕ → ℕ
 decide w s = cond (partOf s (w .denied)) 10 (cond (hasPart s (w .opens)) 11 12)

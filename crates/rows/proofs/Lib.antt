@@ -1,3 +1,4 @@
 -- What several proofs of this crate cite.
 pub mod Padded
 mod Walks
+pub mod Numbers

@@ -4,7 +4,7 @@
 --     Tidy m l             `l` is so stored, with at most m open sets
 --     rowOf, storedRow     the same for a row
 --     answerNumber, verdictNumber    document 01's number for each case
---     Settles t r          `r` is the answer and the row of t
+--     Gives t r          `r` is the answer and the row of t
 use mathlib.Core.Path.{_≡_}
 use mathlib.Core.List.{List, _++_}
 use Prim.Native.Nat.{ℕ, _-_, _≤_}
@@ -51,6 +51,6 @@ verdictNumber Deny = 10
 verdictNumber Allow = 11
 verdictNumber Undecided = 12
 
-pub record Settles (t : meaning.Settled) (r : Settled) : Type 0 where
+pub record Gives (t : meaning.Settled) (r : Settled) : Type 0 where
   pub answer : answerNumber (r .answer) ≡ t .answer
   pub row : r .row ≡ storedRow (t .row)

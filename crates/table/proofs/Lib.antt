@@ -1,4 +1,5 @@
--- The laws of rows put into an area's words, taken out and moved.
+-- The laws of rows read from an area's words, put into them, taken out and moved.
 mod Middle
 mod Regions
 pub mod Moves
+pub mod Reads

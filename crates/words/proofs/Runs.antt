@@ -86,7 +86,7 @@ module _ (l : List ℕ) (at k : ℕ) where
       let vs = take k (drop (at + by) l) in
       let n : length vs ≡ k = length-run l (at + by) k (omega arith) in
       let v : getD now (at + by + k) 0 ≡ getD l (at + by + k) 0 =
-          ap (λ (m : List ℕ). getD m (at + by + k) 0) e ∙ getD-sets-behind l at vs (at + by + k) (omega arith) in
+      ap (λ (m : List ℕ). getD m (at + by + k) 0) e ∙ getD-sets-behind l at vs (at + by + k) (omega arith) in
       ap₂ (λ (m : List ℕ) (x : ℕ). set m (at + k) x) e v
       ∙ ap (λ (j : ℕ). set (sets l at vs) (at + j) (getD l (at + by + k) 0)) (sym n)
       ∙ sets-end l at vs (getD l (at + by + k) 0)
@@ -98,7 +98,7 @@ module _ (l : List ℕ) (at k : ℕ) where
       let vs = drop (k + 1) (take n (drop at l)) in
       let q : at + by + (k + 1) ≡ suc (at + by + k) = omega arith in
       let v : getD now (at + k) 0 ≡ getD l (at + k) 0 =
-          ap (λ (m : List ℕ). getD m (at + k) 0) e ∙ getD-sets-below l (at + by + (k + 1)) vs (at + k) (omega arith) in
+      ap (λ (m : List ℕ). getD m (at + k) 0) e ∙ getD-sets-below l (at + by + (k + 1)) vs (at + k) (omega arith) in
       ap₂ (λ (m : List ℕ) (x : ℕ). set m (at + by + k) x) e v
       ∙ sets-front l (at + by + (k + 1)) vs (at + by + k) (getD l (at + k) 0) (omega arith)
       ∙ ap (λ (j : ℕ). sets (set l (at + by + k) (getD l (at + k) 0)) j vs) q

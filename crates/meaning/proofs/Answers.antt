@@ -1,0 +1,131 @@
+-- The answer to an event, exactly on its ground, and the row afterwards. Assumes nothing.
+use mathlib.Core.Path.{_≡_, refl, subst⁻¹}
+use mathlib.Core.Bool.{Bool, true, false, not, cond}
+use mathlib.Core.Logic.{_↔_, ⊎-elim}
+use Prim.Native.Nat.{ℕ, _≤_, _<_}
+use native.Mathlib.Omega.{arith}
+use lib.Dec.{T, T-not, leb, leb→le, le→leb, nleb→lt}
+use lib.Arith.{lt→nleb}
+use lib.ListN.{length}
+use Rattle.meaning.specs.Events.{known, agrees, Reply}
+use Rattle.meaning.specs.Rows.{Row, blank, Leaves, Good, mostOpens, fits, contradicts, step, Settled, unchanged, forgotten, overflow, settle, Settles}
+use Rattle.meaning.proofs.Kept.{blank-good, step-good}
+use Rattle.meaning.proofs.Verdicts.{unlike, contradicts-law}
+use Rattle.meaning.specs.declared.Happening.{Happening}
+use Rattle.meaning.specs.declared.Happening.the-variants.{Allow, Deny, Given, Withdrawn}
+
+-- a row that does not fit has more than 15 open sets
+fits-law : (w : Row) → T (fits w) ↔ (length (w .opens) ≤ 15)
+unfolding fits
+fits-law w = (leb→le (length (w .opens)) mostOpens, le→leb (length (w .opens)) mostOpens)
+
+fits-not-law : (w : Row) → T (not (fits w)) ↔ (15 < length (w .opens))
+unfolding fits
+fits-not-law w = (nleb→lt (length (w .opens)) mostOpens, lt→nleb (length (w .opens)) mostOpens)
+
+-- an update is never contradicted
+update-agrees : (e : Happening) (w : Row) → ¬ (Reply e) → T (not (contradicts e w))
+unfolding contradicts
+update-agrees (Allow s) w n = absurd (n tt)
+update-agrees (Deny s) w n = absurd (n tt)
+update-agrees (Given r) w n = tt
+update-agrees (Withdrawn r) w n = tt
+
+-- the answer is one of four, by the two tests and by whether the event is a reply
+data Case (e : Happening) (w : Row) : Settled → Type 0 where
+  refused : T (contradicts e w) → Case e w (unchanged 6 w)
+  taken : T (not (contradicts e w)) → T (fits (step e w)) → Case e w (record { answer = 0; row = step e w })
+  no-room : Reply e → T (not (contradicts e w)) → T (not (fits (step e w))) → Case e w (unchanged 7 w)
+  dropped : ¬ (Reply e) → T (not (fits (step e w))) → Case e w forgotten
+
+case : (e : Happening) (w : Row) → Case e w (settle e w)
+unfolding settle overflow
+case e w = go (contradicts e w) (fits (step e w)) refl refl
+  where
+    over : (e : Happening) → T (not (contradicts e w)) → T (not (fits (step e w))) → Case e w (overflow e w)
+    over (Allow s) c f = no-room tt c f
+    over (Deny s) c f = no-room tt c f
+    over (Given r) c f = dropped (λ x. x) f
+    over (Withdrawn r) c f = dropped (λ x. x) f
+
+    go : (a b : Bool) → contradicts e w ≡ a → fits (step e w) ≡ b → Case e w (cond a (unchanged 6 w) (cond b (record { answer = 0; row = step e w }) (overflow e w)))
+    go true b p q = refused (subst⁻¹ T p tt)
+    go false true p q = taken (subst⁻¹ (λ (x : Bool). T (not x)) p tt) (subst⁻¹ T q tt)
+    go false false p q = over e (subst⁻¹ (λ (x : Bool). T (not x)) p tt) (subst⁻¹ (λ (x : Bool). T (not x)) q tt)
+
+module _ (n : ℕ) (e : Happening) (w : Row) (g : Good n w) (k : T (known n e)) where
+  -- too many and few enough exclude each other
+  apart : {A : Type 0} → T (fits (step e w)) → 15 < length (step e w .opens) → A
+  apart f m = let l = fits-law (step e w) .0 f in absurd (let z : ⊥ = omega arith in z)
+
+  settles : (t : Settled) → Case e w t → Settles n e w t
+  settles t (refused c) = record {
+    contradiction = ((λ q. contradicts-law n w e g k .0 c), (λ f. refl));
+    full = (unlike tt, (λ p. absurd (T-not (contradicts e w) (p .1) c)));
+    forgotten = (unlike tt, (λ p. absurd (T-not (contradicts e w) (update-agrees e w (p .0)) c)));
+    recorded = (unlike tt, (λ p. absurd (T-not (contradicts e w) (p .0) c)));
+    row-recorded = unlike tt;
+    row-refused = λ q. refl;
+    row-forgotten = unlike tt;
+  }
+  settles t (taken c f) = record {
+    contradiction = (unlike tt, (λ q. absurd (T-not (contradicts e w) c (contradicts-law n w e g k .1 q))));
+    full = (unlike tt, (λ p. apart f (p .2)));
+    forgotten = (unlike tt, (λ p. apart f (p .1)));
+    recorded = ((λ q. (c, fits-law (step e w) .0 f)), (λ p. refl));
+    row-recorded = λ q. refl;
+    row-refused = ⊎-elim (unlike tt) (unlike tt);
+    row-forgotten = unlike tt;
+  }
+  settles t (no-room r c f) = record {
+    contradiction = (unlike tt, (λ q. absurd (T-not (contradicts e w) c (contradicts-law n w e g k .1 q))));
+    full = ((λ q. (r, c, fits-not-law (step e w) .0 f)), (λ p. refl));
+    forgotten = (unlike tt, (λ p. absurd (p .0 r)));
+    recorded = (unlike tt, (λ p. absurd (T-not (fits (step e w)) f (fits-law (step e w) .1 (p .1)))));
+    row-recorded = unlike tt;
+    row-refused = λ q. refl;
+    row-forgotten = unlike tt;
+  }
+  settles t (dropped r f) = record {
+    contradiction = (unlike tt, (λ q. absurd (T-not (contradicts e w) (update-agrees e w r) (contradicts-law n w e g k .1 q))));
+    full = (unlike tt, (λ p. absurd (r (p .0))));
+    forgotten = ((λ q. (r, fits-not-law (step e w) .0 f)), (λ p. refl));
+    recorded = (unlike tt, (λ p. absurd (T-not (fits (step e w)) f (fits-law (step e w) .1 (p .1)))));
+    row-recorded = unlike tt;
+    row-refused = ⊎-elim (unlike tt) (unlike tt);
+    row-forgotten = λ q. refl;
+  }
+
+  -- each answer exactly on its ground, with its row
+  pub settle-law : Settles n e w (settle e w)
+  settle-law = settles (settle e w) (case e w)
+
+  -- the row afterwards is good
+  pub settle-good : Good n (settle e w .row)
+  settle-good = go (settle e w) (case e w)
+    where
+      go : (t : Settled) → Case e w t → Good n (t .row)
+      go t (refused c) = g
+      go t (taken c f) = step-good n w e g k c
+      go t (no-room r c f) = g
+      go t (dropped r f) = blank-good n
+
+-- and fits where it fitted before
+pub settle-fits : (e : Happening) (w : Row) → T (fits w) → T (fits (settle e w .row))
+settle-fits e w h = go (settle e w) (case e w)
+  where
+    go : (t : Settled) → Case e w t → T (fits (t .row))
+    go t (refused c) = h
+    go t (taken c f) = f
+    go t (no-room r c f) = h
+    go t (dropped r f) = fits-law blank .1 (omega arith)
+
+-- an event answered 0 contradicts nothing
+pub recorded⇒agrees : (e : Happening) (w : Row) → settle e w .answer ≡ 0 → T (not (contradicts e w))
+recorded⇒agrees e w = go (settle e w) (case e w)
+  where
+    go : (t : Settled) → Case e w t → t .answer ≡ 0 → T (not (contradicts e w))
+    go t (refused c) q = unlike tt q
+    go t (taken c f) q = c
+    go t (no-room r c f) q = c
+    go t (dropped r f) q = unlike tt q
