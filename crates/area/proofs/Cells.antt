@@ -27,7 +27,7 @@ unfolding allZero
 zeros-allZero zero = tt
 zeros-allZero (suc n) = zeros-allZero n
 
-take-zeros : (k n : ℕ) → k ≤ n → _≡_ {A = List ℕ} (take k (replicate n 0)) (replicate k 0)
+pub take-zeros : (k n : ℕ) → k ≤ n → _≡_ {A = List ℕ} (take k (replicate n 0)) (replicate k 0)
 take-zeros zero n h = refl
 take-zeros (suc k) zero h = absurd (let z : ⊥ = omega arith in z)
 take-zeros (suc k) (suc n) h = ap {B = List ℕ} (λ l. 0 ∷ l) (take-zeros k n (le-of-suc-le-suc h))

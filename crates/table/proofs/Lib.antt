@@ -2,4 +2,6 @@
 mod Middle
 mod Regions
 pub mod Moves
-pub mod Reads
+pub mod RowWords
+mod Search
+mod Runs

@@ -1,19 +1,23 @@
 -- What the words of a good area say of its rows. Assumes nothing.
 use mathlib.Core.Path.{_≡_, refl, sym, ap, _∙_}
-use mathlib.Core.List.{List, _∷_, _++_, []}
+use mathlib.Core.List.{List, [], _∷_, _++_, append-assoc}
 use Prim.Native.Nat.{ℕ, _+_, _-_, _*_, _≤_, _<_}
 use native.Mathlib.Nat.{add-zero}
 use native.Mathlib.Omega.{arith}
 use lib.Dec.{T}
-use lib.ListN.{length, getD, take, drop, length-take, length-drop}
-use lib.Seq.{getD-take, getD-drop, drop-drop, take-take}
+use lib.ListN.{length, getD, take, drop, replicate, replicate-append-replicate}
+use lib.Seq.{getD-take, getD-drop, drop-drop, take-append-add}
 use Rattle.words.specs.Words.{words}
 use Rattle.meaning.specs.Rows.{mostOpens}
-use Rattle.area.specs.Layout.{mostRows, contentWords, bodyWords, contentsAt, bodiesAt, areaWords, areaBytes, contents, bodies, contentAt, bodyAt, placesAt, goodBytes}
-use Rattle.area.specs.State.{State, GoodState, pad, content, body, wordsOf, stateOf}
-use Rattle.area.proofs.RowLaws.{none}
+use Rattle.area.specs.Layout.{mostRows, contentWords, bodyWords, contentsAt, bodiesAt, contents, bodies, contentAt, bodyAt, placesAt, goodBytes}
+use Rattle.area.specs.State.{pad, content, body, wordsOf, stateOf}
+use Rattle.area.proofs.Cells.{take-zeros, pad-short}
+use Rattle.area.proofs.Rules.{few-opens}
 use Rattle.area.proofs.Held.{content-is, body-is, used-is}
 use Rattle.area.proofs.Bytes.{good-length, good-state, good-words}
+use Rattle.rows.specs.Stored.{places, padded, held, Tidy}
+use Rattle.rows.specs.declared.OpenSets.{OpenSets}
+use Rattle.rows.proofs.Padded.{tidy-sets, tidy-count}
 use Rattle.table.specs.Table.{rowsIn, Sound, nth}
 
 -- good bytes are sound
@@ -37,12 +41,13 @@ body-word ws i j u =
     ∙ getD-drop bodiesAt ws (i * bodyWords + j) 0
     ∙ ap (λ (k : ℕ). getD ws k 0) (let q : bodiesAt + (i * bodyWords + j) ≡ bodiesAt + i * bodyWords + j = omega arith in q)
 
+take-drop-one : (l : List ℕ) → take mostOpens (drop 1 l) ≡ drop 1 (take bodyWords l)
+take-drop-one [] = refl
+take-drop-one (x ∷ l) = refl
+
 -- ---- a good area's words
 
 module _ (l : List ℕ) (s : Sound l) where
-  ws : List ℕ
-  ws = words l
-
   is : words l ≡ wordsOf (stateOf l)
   is = good-words l (s .good)
 
@@ -76,4 +81,31 @@ module _ (l : List ℕ) (s : Sound l) where
     places-read = sym (cut (words l)) ∙ ap (drop 1) body-read
       where
         cut : (v : List ℕ) → placesAt v i ≡ take mostOpens (drop (bodiesAt + i * bodyWords + 1) v)
-        cut v = ?
+        cut v =
+            ap (λ (l : List ℕ). drop 1 (take bodyWords l)) (drop-drop (i * bodyWords) bodiesAt v)
+            ∙ sym (take-drop-one (drop (bodiesAt + i * bodyWords) v))
+            ∙ ap (take mostOpens) (drop-drop 1 (bodiesAt + i * bodyWords) v)
+
+-- ---- a row by value and its places
+
+-- the 15 places of a tidy row's open sets
+pub tidy-places : (l : OpenSets) → Tidy mostOpens l → take mostOpens (l .sets) ≡ pad mostOpens (held l)
+tidy-places l t =
+    let o = held l in
+    let few : length o ≤ mostOpens = let f = t .few in omega (arith, tidy-count mostOpens l t (omega arith)) in
+    ap (take mostOpens) (tidy-sets mostOpens l t (omega arith))
+    ∙ ap (λ (k : ℕ). take k (o ++ replicate (places - length o) 0)) (let q : mostOpens ≡ length o + (mostOpens - length o) = omega arith in q)
+    ∙ take-append-add o (replicate (places - length o) 0) (mostOpens - length o)
+    ∙ ap (λ (r : List ℕ). o ++ r) (take-zeros (mostOpens - length o) (places - length o) (omega arith))
+    ∙ sym (pad-short mostOpens o few)
+
+-- 15 places and a zero are the places of a row by value
+pub places-tidy : (o : List ℕ) → length o ≤ mostOpens → pad mostOpens o ++ 0 ∷ [] ≡ padded o
+places-tidy o few =
+    ap (λ (l : List ℕ). l ++ 0 ∷ []) (pad-short mostOpens o few)
+    ∙ append-assoc o (replicate (mostOpens - length o) 0) (0 ∷ [])
+    ∙ ap (λ (r : List ℕ). o ++ r) (replicate-append-replicate (mostOpens - length o) 1 0 ∙ ap (λ (k : ℕ). replicate k 0) (let q : mostOpens - length o + 1 ≡ places - length o = omega arith in q))
+
+-- the open sets of a row are few
+pub opens-few : (l : List ℕ) (s : Sound l) (i : ℕ) → i < length (rowsIn l) → length (nth i (rowsIn l) .row .opens) ≤ mostOpens
+opens-few l s i h = few-opens (stateOf l) (good-state l (s .good)) i h
