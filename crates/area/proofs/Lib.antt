@@ -4,3 +4,5 @@ pub mod Cells
 pub mod Held
 pub mod Rules
 pub mod Bytes
+pub mod Full
+pub mod Theorems
