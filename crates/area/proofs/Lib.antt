@@ -4,5 +4,6 @@ pub mod Cells
 pub mod Held
 pub mod Rules
 pub mod Bytes
+pub mod CheckLaws
 pub mod Full
 pub mod Theorems

@@ -1,4 +1,6 @@
 // The lent area: its numbers, and the check of it.
+pub mod check;
+
 use meaning::MOST_OPENS;
 
 pub const MOST_ROLES: u64 = 64;

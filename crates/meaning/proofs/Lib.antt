@@ -1,5 +1,6 @@
 -- The laws of the definitions, and the theorems of this crate, gathered in `Theorems`.
 pub mod ListLaws
+pub mod Walks
 pub mod OpenLaws
 pub mod Steps
 pub mod Kept

@@ -2,18 +2,18 @@
 use mathlib.Core.Path.{_≡_, refl, sym, ap, _∙_}
 use mathlib.Core.List.{List, [], _∷_, _++_, append-assoc}
 use Prim.Native.Nat.{ℕ, _+_, _-_, _*_, _≤_, _<_}
-use native.Mathlib.Nat.{add-zero}
 use native.Mathlib.Omega.{arith}
 use lib.Dec.{T}
 use lib.ListN.{length, getD, take, drop, replicate, replicate-append-replicate}
-use lib.Seq.{getD-take, getD-drop, drop-drop, take-append-add}
+use lib.Seq.{take-append-add}
 use Rattle.words.specs.Words.{words}
 use Rattle.meaning.specs.Rows.{mostOpens}
-use Rattle.area.specs.Layout.{mostRows, contentWords, bodyWords, contentsAt, bodiesAt, contents, bodies, contentAt, bodyAt, placesAt, goodBytes}
+use Rattle.area.specs.Layout.{mostRows, contentWords, bodyWords, contentsAt, bodiesAt, contentAt, bodyAt, goodBytes}
 use Rattle.area.specs.State.{pad, content, body, wordsOf, stateOf}
 use Rattle.area.proofs.Cells.{take-zeros, pad-short}
 use Rattle.area.proofs.Rules.{few-opens}
 use Rattle.area.proofs.Held.{content-is, body-is, used-is}
+use Rattle.area.proofs.CheckLaws.{permission-word, count-word, denied-word, places-run}
 use Rattle.area.proofs.Bytes.{good-length, good-state, good-words}
 use Rattle.rows.specs.Stored.{places, padded, held, Tidy}
 use Rattle.rows.specs.declared.OpenSets.{OpenSets}
@@ -23,27 +23,6 @@ use Rattle.table.specs.Table.{rowsIn, Sound, nth}
 -- good bytes are sound
 pub sound : (l : List ℕ) → T (goodBytes l) → Sound l
 sound l t = record { good = t; size = good-length l t; few = good-state l t .most-rows }
-
--- ---- words by number
-
-content-word : (ws : List ℕ) (i j : ℕ) → i < mostRows → j < contentWords → getD (contentAt ws i) j 0 ≡ getD ws (contentsAt + i * contentWords + j) 0
-content-word ws i j h u =
-    getD-take contentWords (drop (i * contentWords) (contents ws)) j 0 u
-    ∙ getD-drop (i * contentWords) (contents ws) j 0
-    ∙ getD-take (mostRows * contentWords) (drop contentsAt ws) (i * contentWords + j) 0 (omega arith)
-    ∙ getD-drop contentsAt ws (i * contentWords + j) 0
-    ∙ ap (λ (k : ℕ). getD ws k 0) (let q : contentsAt + (i * contentWords + j) ≡ contentsAt + i * contentWords + j = omega arith in q)
-
-body-word : (ws : List ℕ) (i j : ℕ) → j < bodyWords → getD (bodyAt ws i) j 0 ≡ getD ws (bodiesAt + i * bodyWords + j) 0
-body-word ws i j u =
-    getD-take bodyWords (drop (i * bodyWords) (bodies ws)) j 0 u
-    ∙ getD-drop (i * bodyWords) (bodies ws) j 0
-    ∙ getD-drop bodiesAt ws (i * bodyWords + j) 0
-    ∙ ap (λ (k : ℕ). getD ws k 0) (let q : bodiesAt + (i * bodyWords + j) ≡ bodiesAt + i * bodyWords + j = omega arith in q)
-
-take-drop-one : (l : List ℕ) → take mostOpens (drop 1 l) ≡ drop 1 (take bodyWords l)
-take-drop-one [] = refl
-take-drop-one (x ∷ l) = refl
 
 -- ---- a good area's words
 
@@ -65,26 +44,16 @@ module _ (l : List ℕ) (s : Sound l) where
     body-read = ap (λ (v : List ℕ). bodyAt v i) is ∙ body-is (stateOf l) (s .few) i h
 
     pub permission-read : getD (words l) (contentsAt + i * contentWords) 0 ≡ nth i (rowsIn l) .permission
-    permission-read =
-        ap (λ (k : ℕ). getD (words l) k 0) (sym (add-zero (contentsAt + i * contentWords)))
-        ∙ sym (content-word (words l) i 0 few (omega arith)) ∙ ap (λ (v : List ℕ). getD v 0 0) content-read
+    permission-read = permission-word (words l) i few ∙ ap (λ (v : List ℕ). getD v 0 0) content-read
 
     pub count-read : getD (words l) (contentsAt + i * contentWords + 1) 0 ≡ length (nth i (rowsIn l) .row .opens)
-    count-read = sym (content-word (words l) i 1 few (omega arith)) ∙ ap (λ (v : List ℕ). getD v 1 0) content-read
+    count-read = count-word (words l) i few ∙ ap (λ (v : List ℕ). getD v 1 0) content-read
 
     pub denied-read : getD (words l) (bodiesAt + i * bodyWords) 0 ≡ nth i (rowsIn l) .row .denied
-    denied-read =
-        ap (λ (k : ℕ). getD (words l) k 0) (sym (add-zero (bodiesAt + i * bodyWords)))
-        ∙ sym (body-word (words l) i 0 (omega arith)) ∙ ap (λ (v : List ℕ). getD v 0 0) body-read
+    denied-read = denied-word (words l) i few ∙ ap (λ (v : List ℕ). getD v 0 0) body-read
 
     pub places-read : take mostOpens (drop (bodiesAt + i * bodyWords + 1) (words l)) ≡ pad mostOpens (nth i (rowsIn l) .row .opens)
-    places-read = sym (cut (words l)) ∙ ap (drop 1) body-read
-      where
-        cut : (v : List ℕ) → placesAt v i ≡ take mostOpens (drop (bodiesAt + i * bodyWords + 1) v)
-        cut v =
-            ap (λ (l : List ℕ). drop 1 (take bodyWords l)) (drop-drop (i * bodyWords) bodiesAt v)
-            ∙ sym (take-drop-one (drop (bodiesAt + i * bodyWords) v))
-            ∙ ap (take mostOpens) (drop-drop 1 (bodiesAt + i * bodyWords) v)
+    places-read = sym (places-run (words l) i few) ∙ ap (drop 1) body-read
 
 -- ---- a row by value and its places
 

@@ -45,10 +45,10 @@ sets-front l i (w ∷ vs) k v h =
 -- ---- the words from a place on
 
 module _ (l : List ℕ) (at n k : ℕ) (h : k < n) (b : at + n ≤ length l) where
-  run-word : getD (take n (drop at l)) k 0 ≡ getD l (at + k) 0
+  pub run-word : getD (take n (drop at l)) k 0 ≡ getD l (at + k) 0
   run-word = getD-take n (drop at l) k 0 h ∙ getD-drop at l k 0
 
-  run-long : k < length (take n (drop at l))
+  pub run-long : k < length (take n (drop at l))
   run-long = omega (arith, length-take n (drop at l), length-drop at l)
 
   -- the last but k are the word k and the last but k + 1
