@@ -15,11 +15,11 @@ use Rattle.meaning.specs.declared.Happening.{Happening}
 use Rattle.meaning.specs.declared.Happening.the-variants.{Allow, Deny, Given, Withdrawn}
 
 -- a row that does not fit has more than 15 open sets
-fits-law : (w : Row) → T (fits w) ↔ (length (w .opens) ≤ 15)
+pub fits-law : (w : Row) → T (fits w) ↔ (length (w .opens) ≤ 15)
 unfolding fits
 fits-law w = (leb→le (length (w .opens)) mostOpens, le→leb (length (w .opens)) mostOpens)
 
-fits-not-law : (w : Row) → T (not (fits w)) ↔ (15 < length (w .opens))
+pub fits-not-law : (w : Row) → T (not (fits w)) ↔ (15 < length (w .opens))
 unfolding fits
 fits-not-law w = (nleb→lt (length (w .opens)) mostOpens, lt→nleb (length (w .opens)) mostOpens)
 

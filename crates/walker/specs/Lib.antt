@@ -1,0 +1,2 @@
+-- What the contracts of `walker` cite.
+pub mod Walk

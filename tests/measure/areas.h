@@ -1,0 +1,38 @@
+/* Lent areas of a known fill, to count the instructions of a call on them. */
+#ifndef MEASURE_AREAS_H
+#define MEASURE_AREAS_H
+
+#include <stdbool.h>
+#include <stddef.h>
+#include <stdint.h>
+
+enum {
+    MOST_ROWS = 128,
+    MOST_OPENS = 15,
+    BODY_WORDS = 16,
+    CONTENTS_AT = 2,
+    BODIES_AT = 258,
+    AREA_WORDS = 2306,
+    AREA_BYTES = 8 * AREA_WORDS
+};
+
+/* OWN: each open set has a role that no other set of its row has.
+ * PAIRS: the open sets are all pairs of few roles, so no set has a role of its own. */
+enum kind { OWN, PAIRS };
+
+/* A role that no filled row denies and no open set has. */
+#define FREE_ROLE 47
+
+/* Role count 64, permissions 1 to rows; rows at most MOST_ROWS, opens at most MOST_OPENS. */
+void fill(uint8_t *area, unsigned rows, unsigned opens, enum kind kind);
+
+/* Whether the area obeys every layout rule. */
+bool is_good(const uint8_t *area);
+
+uint64_t word(const uint8_t *area, size_t at);
+
+/* The place of row i's permission, and of its denied set, which its open sets follow. */
+size_t contents_at(size_t i);
+size_t body_at(size_t i);
+
+#endif
