@@ -69,7 +69,7 @@ reply-after (Given q) r h = absurd r
 reply-after (Withdrawn q) r h = absurd r
 
 -- two replies next to each other change places
-becomes-swap : (xs ys : List Happening) (e f : Happening) → Reply e → Reply f → (h₀ h : ℕ) → Becomes (xs ++ e ∷ f ∷ ys) h₀ h → Becomes (xs ++ f ∷ e ∷ ys) h₀ h
+pub becomes-swap : (xs ys : List Happening) (e f : Happening) → Reply e → Reply f → (h₀ h : ℕ) → Becomes (xs ++ e ∷ f ∷ ys) h₀ h → Becomes (xs ++ f ∷ e ∷ ys) h₀ h
 becomes-swap [] ys e f r q h₀ h p =
     let x = reply-after e r h₀ in
     let y = reply-after f q h₀ in

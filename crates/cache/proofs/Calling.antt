@@ -1,0 +1,122 @@
+-- What is known at the front of a call, and the answers of a decision and of an opening. Assumes nothing.
+use mathlib.Core.Path.{_≡_, refl, sym, ap, ap₂, _∙_, subst, subst⁻¹}
+use mathlib.Core.Bool.{Bool, true, false, not, cond, _&&_, _||_}
+use mathlib.Core.List.{List, []}
+use Prim.Native.Nat.{ℕ, _+_, _≤_, _<_}
+use native.Mathlib.Decide.{decLt}
+use native.Mathlib.Omega.{arith}
+use lib.Dec.{T, eqb, ltb, leb, ltb→lt, lt→ltb}
+use lib.ListN.{length, getD}
+use borrow.Author.Tests.{eq-eqb, ne-eqb, le-leb, lt-leb, lt-ltb, le-ltb}
+use Rattle.words.specs.Words.{words, Spans}
+use Rattle.roles.specs.Sets.{single, allBelow, partOf}
+use Rattle.roles.proofs.Member.{T-ext}
+use Rattle.roles.proofs.Laws.{partOf-allBelow, single-below, below-single}
+use Rattle.meaning.specs.Rows as meaning
+use Rattle.meaning.specs.Rows.{decide, mostOpens}
+use Rattle.rows.specs.Stored.{Tidy, rowOf, storedRow}
+use Rattle.rows.specs.declared.Row.{Row}
+use Rattle.rows.proofs.Padded.{stored⇒tidy, stored⇒row}
+use Rattle.area.specs.Layout.{mostRoles, lastPermission, areaBytes, goodBytes}
+use Rattle.area.specs.State.{rowFor, heldBy, stateOf, areaOf}
+use Rattle.area.proofs.RowLaws.{rowFor-few}
+use Rattle.area.proofs.Bytes.{good-state}
+use Rattle.table.specs.Table.{rowsIn, Sound}
+use Rattle.cache.specs.Calls.{stays, holds, valid, openOf, onArea, decideOf}
+use Rattle.cache.specs.Answers.{Gives}
+use Rattle.cache.specs.declared.Answer.the-variants.{Done, BadArea, BadRoleCount}
+use Rattle.cache.proofs.Ladder.{gives}
+
+-- ---- by value
+
+-- a role is below n exactly when its set is known
+pub role-known : (r n : ℕ) → ltb r n ≡ partOf (single r) (allBelow n)
+role-known r n = T-ext (ltb r n) (partOf (single r) (allBelow n)) (
+  (λ h. partOf-allBelow n (single r) .1 (single-below n r (ltb→lt r n h))),
+  λ h. lt→ltb r n (below-single n r (partOf-allBelow n (single r) .0 h)),
+)
+
+-- ---- the row of a permission, by value
+
+module _ (l : List ℕ) (s : Sound l) (p : ℕ) (w : Row) (e : w ≡ storedRow (rowFor p (rowsIn l))) where
+  pub row-tidy : Tidy mostOpens (w .opens)
+  row-tidy =
+      stored⇒tidy mostOpens (w .opens) (rowFor p (rowsIn l) .opens) (ap (λ (x : Row). x .opens) e)
+      (rowFor-few (stateOf l .roles) 0 p (rowsIn l) (good-state l (s .good) .good-rows))
+
+  pub row-decides : (t : ℕ) → decide (rowOf w) t ≡ decide (rowFor p (rowsIn l)) t
+  row-decides t = ap (λ (x : meaning.Row). decide x t) (stored⇒row w (rowFor p (rowsIn l)) e)
+
+-- ---- the front of every call
+
+pub is-true : (b : Bool) → b ≡ true → T b
+is-true b e = subst⁻¹ T e tt
+
+pub is-valid : (p : ℕ) → (p ≡ 0 → ⊥) → p ≤ lastPermission → valid p ≡ true
+is-valid p h k = ap₂ (λ (a b : Bool). a && b) (le-leb 1 p (omega arith)) (le-leb p lastPermission k)
+
+pub not-valid : (p : ℕ) → p ≡ 0 → valid p ≡ false
+not-valid p h = ap (λ (k : ℕ). valid k) h
+
+pub first-word : (l : List ℕ) → length l ≡ areaBytes → Spans l 1
+first-word l h = record { whole = omega arith; enough = omega arith }
+
+pub roles-are : (l : List ℕ) → getD (words l) 0 0 ≡ stateOf l .roles
+unfolding stateOf heldBy
+roles-are l = refl
+
+pub roles-few : (l : List ℕ) (n : ℕ) → T (goodBytes l) → n ≡ getD (words l) 0 0 → n ≤ mostRoles
+roles-few l n t e = subst⁻¹ (λ (k : ℕ). k ≤ mostRoles) (e ∙ roles-are l) (good-state l t .most-roles)
+
+pub set-known-at : (l : List ℕ) (n s : ℕ) (b t : Bool) → n ≡ getD (words l) 0 0 → b ≡ partOf s (allBelow n) → b ≡ t → partOf s (allBelow (stateOf l .roles)) ≡ t
+set-known-at l n s b t q h k = sym (ap (λ (x : ℕ). partOf s (allBelow x)) (q ∙ roles-are l)) ∙ sym h ∙ k
+
+-- ---- a decision
+
+module _ (l : List ℕ) (p s : ℕ) where
+  decided : (a b k : Bool) → goodBytes l ≡ a → valid p ≡ b → partOf s (allBelow (stateOf l .roles)) ≡ k
+      → cond (not a) (stays 1 l) (cond (not b) (stays 3 l) (cond (not k) (stays 4 l) (stays (decide (rowFor p (rowsIn l)) s) l))) .answer ≡ decideOf l p s .answer
+  unfolding decideOf onArea
+  decided a b k e f g = sym (λ i. cond (not (e i)) (stays 1 l) (cond (not (f i)) (stays 3 l) (cond (not (g i)) (stays 4 l) (stays (decide (rowFor p (rowsIn l)) s) l))) .answer)
+
+  pub decide-1 : goodBytes l ≡ false → 1 ≡ decideOf l p s .answer
+  decide-1 h = decided false (valid p) (partOf s (allBelow (stateOf l .roles))) h refl refl
+
+  pub decide-3 : goodBytes l ≡ true → valid p ≡ false → 3 ≡ decideOf l p s .answer
+  decide-3 h v = decided true false (partOf s (allBelow (stateOf l .roles))) h v refl
+
+  pub decide-4 : goodBytes l ≡ true → valid p ≡ true → partOf s (allBelow (stateOf l .roles)) ≡ false → 4 ≡ decideOf l p s .answer
+  decide-4 h v k = decided true true false h v k
+
+  pub decide-go : goodBytes l ≡ true → valid p ≡ true → partOf s (allBelow (stateOf l .roles)) ≡ true → decide (rowFor p (rowsIn l)) s ≡ decideOf l p s .answer
+  decide-go h v k = decided true true true h v k
+
+-- ---- opening
+
+leb-not : (a b : ℕ) → leb a b ≡ not (ltb b a)
+leb-not a b = elim (decLt b a) [
+  | yes h ↦ lt-leb a b h ∙ sym (ap not (lt-ltb b a h))
+  | no h ↦ le-leb a b (omega arith) ∙ sym (ap not (le-ltb b a (omega arith)))
+]
+
+neither : (x y : Bool) → (not x && not y) ≡ not (x || y)
+neither true y = refl
+neither false y = refl
+
+count-is : (n : ℕ) (b : Bool) → (ltb n 1 || ltb mostRoles n) ≡ b → (leb 1 n && leb n mostRoles) ≡ not b
+count-is n b e = ap₂ (λ (x y : Bool). x && y) (leb-not 1 n) (leb-not n mostRoles) ∙ neither (ltb n 1) (ltb mostRoles n) ∙ ap not e
+
+module _ (l : List ℕ) (n : ℕ) where
+  opens : (a b : Bool) → eqb (length l) areaBytes ≡ a → (leb 1 n && leb n mostRoles) ≡ b
+      → openOf l n ≡ cond (not a) (stays 1 l) (cond (not b) (stays 2 l) (holds 0 (record { roles = n; rows = [] })))
+  unfolding openOf
+  opens a b e f = λ i. cond (not (e i)) (stays 1 l) (cond (not (f i)) (stays 2 l) (holds 0 (record { roles = n; rows = [] })))
+
+  pub open-1 : (length l ≡ areaBytes → ⊥) → Gives (openOf l n) BadArea l
+  open-1 h = gives (openOf l n) BadArea l (opens false (leb 1 n && leb n mostRoles) (ne-eqb (length l) areaBytes h) refl)
+
+  pub open-2 : length l ≡ areaBytes → (ltb n 1 || ltb mostRoles n) ≡ true → Gives (openOf l n) BadRoleCount l
+  open-2 h k = gives (openOf l n) BadRoleCount l (opens true false (eq-eqb (length l) areaBytes h) (count-is n true k))
+
+  pub open-go : (m : List ℕ) → length l ≡ areaBytes → (ltb n 1 || ltb mostRoles n) ≡ false → m ≡ areaOf (record { roles = n; rows = [] }) → Gives (openOf l n) Done m
+  open-go m h k e = gives (openOf l n) Done m (opens true true (eq-eqb (length l) areaBytes h) (count-is n false k) ∙ ap (stays 0) (sym e))

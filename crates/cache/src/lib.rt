@@ -1,0 +1,293 @@
+// The calls on a lent area: open, reply, update, decide, forget.
+use area::AREA_BYTES;
+use area::MOST_ROLES;
+use area::MOST_ROWS;
+use area::check::check;
+use meaning::Happening;
+use roles::RoleSet;
+use rows::Row;
+use rows::Verdict;
+use rows::blank;
+use rows::settle;
+use table::Found;
+use table::clear_all;
+use table::find;
+use table::insert_at;
+use table::put_at;
+use table::remove_at;
+use table::row_at;
+use table::rows_used;
+use words::get_word;
+ghost use mathlib.Core.Path.{_≡_};
+ghost use mathlib.Core.Bool.{cond, not};
+ghost use Prim.Native.Nat.{_≤_};
+ghost use lib.Dec.{T};
+ghost use lib.ListN.{length};
+ghost use Rattle.roles.specs.Sets.{allBelow, partOf};
+ghost use Rattle.meaning.specs.Events.{known};
+ghost use Rattle.meaning.specs.Rows.{blank, mostOpens, fits, contradicts, step, decide};
+ghost use Rattle.rows.specs.Stored.{Tidy, rowOf, storedRow};
+ghost use Rattle.area.specs.Layout.{areaBytes};
+ghost use Rattle.area.specs.State.{isBlank, rowFor, withRow, stateOf, areaOf};
+ghost use Rattle.table.specs.Table.{rowsIn, Sound, foundFor};
+ghost use Rattle.table.specs.declared.Found.the-variants.{At, Vacant};
+ghost use Rattle.cache.specs.Calls.{isReply, eventOf, openOf, replyOf, updateOf, decideOf, forgetOf};
+ghost use Rattle.cache.specs.Answers.{numberOf, Gives, Fresh};
+
+// What a call answers; `numberOf` has the numbers.
+pub enum Answer {
+    Done,
+    BadArea,
+    BadRoleCount,
+    NoPermission,
+    UnknownRole,
+    BadNumber,
+    Contradiction,
+    Full,
+    Forgotten,
+    Deny,
+    Allow,
+    Undecided,
+}
+
+// ---- what the numbers of a call say
+
+// Whether all roles of s are below n.
+fn set_known(s: RoleSet, n: u64) -> bool
+    requires { ⌜ n ≤ 64 ⌝ }
+    ensures { λ b. ⌜ b ≡ partOf (s .bits) (allBelow n) ⌝ }
+{
+    s.is_part_of(RoleSet::all_below(n))
+}
+
+// A role is compared with n before its set is made.
+fn is_known(e: Happening, n: u64) -> bool
+    requires { ⌜ n ≤ 64 ⌝ }
+    ensures { λ b. ⌜ b ≡ known n e ⌝ }
+{
+    match e {
+        Happening::Allow(s) => set_known(s, n),
+        Happening::Deny(s) => set_known(s, n),
+        Happening::Given(r) => r < n,
+        Happening::Withdrawn(r) => r < n,
+    }
+}
+
+// Whether a row says nothing.
+fn is_blank(w: Row) -> bool
+    requires { ⌜ Tidy mostOpens (w .opens) ⌝ }
+    ensures { λ b. ⌜ b ≡ isBlank (rowOf w) ⌝ }
+{
+    let d = w.denied;
+    let l = w.opens;
+    (d.bits == 0) & (l.count == 0)
+}
+
+// ---- a decision
+
+// The row of p, or what a permission without one has.
+fn row_for(a: &[u8], p: u32) -> Row
+    requires { ⌜ Sound (now a) ⌝ }
+    ensures { λ w. ⌜ w ≡ storedRow (rowFor p (rowsIn (now (a .entry)))) ⌝ }
+{
+    match find(a, p) {
+        Found::At(i) => row_at(a, i),
+        Found::Vacant(_) => blank(),
+    }
+}
+
+fn judge(w: Row, s: RoleSet) -> Answer
+    requires { ⌜ Tidy mostOpens (w .opens) ⌝ }
+    ensures { λ r. ⌜ numberOf r ≡ decide (rowOf w) (s .bits) ⌝ }
+{
+    match rows::decide(w, s) {
+        Verdict::Deny => Answer::Deny,
+        Verdict::Allow => Answer::Allow,
+        Verdict::Undecided => Answer::Undecided,
+    }
+}
+
+pub fn decide(a: &[u8], p: u32, s: u64) -> Answer
+    ensures { λ r. ⌜ numberOf r ≡ decideOf (now (a .entry)) p s .answer ⌝ }
+{
+    if !check(a) {
+        return Answer::BadArea;
+    }
+    if p == 0 {
+        return Answer::NoPermission;
+    }
+    let session = RoleSet { bits: s };
+    if !set_known(session, get_word(a, 0)) {
+        return Answer::UnknownRole;
+    }
+    judge(row_for(a, p), session)
+}
+
+// ---- an event
+
+// Another row for the one of number i; a row that says nothing is taken out.
+fn put_over(a: &mut [u8], i: usize, p: u32, w: Row)
+    requires { ⌜ Sound (now a) × (foundFor p (rowsIn (now a)) ≡ At i) × Tidy mostOpens (w .opens) ⌝ }
+    ensures { λ _. ⌜ now (a .exit) ≡ areaOf (withRow (stateOf (now (a .entry))) p (rowOf w)) ⌝ }
+{
+    if is_blank(w) {
+        remove_at(a, i);
+    } else {
+        put_at(a, i, p, w);
+    }
+}
+
+// An event about a permission with a row.
+fn enter_over(a: &mut [u8], i: usize, p: u32, e: Happening) -> Answer
+    requires { ⌜ Sound (now a) × (foundFor p (rowsIn (now a)) ≡ At i) × T (known (stateOf (now a) .roles) e) ⌝ }
+    ensures { λ r. ⌜ Gives (eventOf (now (a .entry)) p e) r (now (a .exit)) ⌝ }
+{
+    let settled = settle(row_at(a, i), e);
+    let w = settled.row;
+    let answer = settled.answer;
+    match answer {
+        rows::Answer::Contradiction => Answer::Contradiction,
+        rows::Answer::Full => Answer::Full,
+        rows::Answer::Forgotten => {
+            put_over(a, i, p, w);
+            Answer::Forgotten
+        }
+        rows::Answer::Recorded => {
+            put_over(a, i, p, w);
+            Answer::Done
+        }
+    }
+}
+
+// An event for whose new row there is no room.
+fn no_room(e: Happening) -> Answer
+    ensures { λ r. ⌜ numberOf r ≡ cond (isReply e) 7 8 ⌝ }
+{
+    match e {
+        Happening::Allow(_) => Answer::Full,
+        Happening::Deny(_) => Answer::Full,
+        Happening::Given(_) => Answer::Forgotten,
+        Happening::Withdrawn(_) => Answer::Forgotten,
+    }
+}
+
+// The first row of a permission, after the event e.
+fn put_new(a: &mut [u8], i: usize, p: u32, e: Happening, w: Row) -> Answer
+    requires { ⌜ Sound (now a) × (foundFor p (rowsIn (now a)) ≡ Vacant i) × Fresh (stateOf (now a) .roles) e w ⌝ }
+    ensures { λ r. ⌜ Gives (eventOf (now (a .entry)) p e) r (now (a .exit)) ⌝ }
+{
+    if is_blank(w) {
+        return Answer::Done;
+    }
+    if rows_used(a) == MOST_ROWS {
+        return no_room(e);
+    }
+    insert_at(a, i, p, w);
+    Answer::Done
+}
+
+// An event about a permission without a row: where it is not recorded there is nothing to change.
+fn enter_new(a: &mut [u8], i: usize, p: u32, e: Happening) -> Answer
+    requires { ⌜ Sound (now a) × (foundFor p (rowsIn (now a)) ≡ Vacant i) × T (known (stateOf (now a) .roles) e) ⌝ }
+    ensures { λ r. ⌜ Gives (eventOf (now (a .entry)) p e) r (now (a .exit)) ⌝ }
+{
+    let settled = settle(blank(), e);
+    let w = settled.row;
+    let answer = settled.answer;
+    match answer {
+        rows::Answer::Contradiction => Answer::Contradiction,
+        rows::Answer::Full => Answer::Full,
+        rows::Answer::Forgotten => Answer::Forgotten,
+        rows::Answer::Recorded => put_new(a, i, p, e, w),
+    }
+}
+
+fn enter(a: &mut [u8], p: u32, e: Happening) -> Answer
+    requires { ⌜ Sound (now a) ⌝ }
+    ensures { λ r. ⌜ Gives (eventOf (now (a .entry)) p e) r (now (a .exit)) ⌝ }
+{
+    if !is_known(e, get_word(a, 0)) {
+        return Answer::UnknownRole;
+    }
+    match find(a, p) {
+        Found::At(i) => enter_over(a, i, p, e),
+        Found::Vacant(i) => enter_new(a, i, p, e),
+    }
+}
+
+// Verdict 0 is deny, 1 allow.
+pub fn reply(a: &mut [u8], p: u32, verdict: u64, s: u64) -> Answer
+    ensures { λ r. ⌜ Gives (replyOf (now (a .entry)) p verdict s) r (now (a .exit)) ⌝ }
+{
+    if !check(a) {
+        return Answer::BadArea;
+    }
+    if p == 0 {
+        return Answer::NoPermission;
+    }
+    if 1 < verdict {
+        return Answer::BadNumber;
+    }
+    let session = RoleSet { bits: s };
+    if verdict == 1 {
+        return enter(a, p, Happening::Allow(session));
+    }
+    enter(a, p, Happening::Deny(session))
+}
+
+// Kind 0 is withdrawn, 1 given.
+pub fn update(a: &mut [u8], p: u32, kind: u64, role: u64) -> Answer
+    ensures { λ r. ⌜ Gives (updateOf (now (a .entry)) p kind role) r (now (a .exit)) ⌝ }
+{
+    if !check(a) {
+        return Answer::BadArea;
+    }
+    if p == 0 {
+        return Answer::NoPermission;
+    }
+    if 1 < kind {
+        return Answer::BadNumber;
+    }
+    if kind == 1 {
+        return enter(a, p, Happening::Given(role));
+    }
+    enter(a, p, Happening::Withdrawn(role))
+}
+
+// ---- opening and forgetting
+
+fn forget_row(a: &mut [u8], p: u32)
+    requires { ⌜ Sound (now a) ⌝ }
+    ensures { λ _. ⌜ now (a .exit) ≡ areaOf (withRow (stateOf (now (a .entry))) p blank) ⌝ }
+{
+    match find(a, p) {
+        Found::At(i) => remove_at(a, i),
+        Found::Vacant(_) => {}
+    }
+}
+
+pub fn forget(a: &mut [u8], p: u32) -> Answer
+    ensures { λ r. ⌜ Gives (forgetOf (now (a .entry)) p) r (now (a .exit)) ⌝ }
+{
+    if !check(a) {
+        return Answer::BadArea;
+    }
+    if p == 0 {
+        return Answer::NoPermission;
+    }
+    forget_row(a, p);
+    Answer::Done
+}
+
+pub fn open(a: &mut [u8], n: u64) -> Answer
+    ensures { λ r. ⌜ Gives (openOf (now (a .entry)) n) r (now (a .exit)) ⌝ }
+{
+    if a.len() != AREA_BYTES {
+        return Answer::BadArea;
+    }
+    if (n < 1) | (MOST_ROLES < n) {
+        return Answer::BadRoleCount;
+    }
+    clear_all(a, n);
+    Answer::Done
+}

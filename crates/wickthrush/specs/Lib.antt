@@ -1,0 +1,2 @@
+-- What the contracts of `wickthrush` cite.
+pub mod Numbers

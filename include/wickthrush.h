@@ -1,0 +1,111 @@
+/* Wickthrush: a cache of access decisions that lives in memory lent by the caller.
+ *
+ * It takes the replies of a decision point and policy updates, and decides requests from them: allow or deny
+ * where every assignment of roles that agrees with them says so, undecided otherwise.
+ *
+ * Roles are 0 to n - 1, where n is the role count. A role set is a number: role r is its bit of weight 2^r.
+ * A permission is any number but 0.
+ *
+ * The lent area has WICKTHRUSH_AREA_BYTES bytes and may stand at any address. Nothing else is kept: an area may be
+ * copied, moved or stored. Areas are independent of each other; the caller sees to it that no call changes an area
+ * while another call is using it.
+ *
+ * Where several refusals apply, the first of this order is given: 1, 2, 3, 5, 4, 6, then 7 or 8.
+ */
+#ifndef WICKTHRUSH_H
+#define WICKTHRUSH_H
+
+#include <stddef.h>
+#include <stdint.h>
+
+#ifdef __cplusplus
+extern "C" {
+#endif
+
+#define WICKTHRUSH_VERSION_MAJOR 0
+#define WICKTHRUSH_VERSION_MINOR 1
+#define WICKTHRUSH_VERSION_PATCH 0
+
+/* The length of the lent area. */
+#define WICKTHRUSH_AREA_BYTES 18448
+
+/* The largest role count, the most permissions with a row, and the most open sets of a row. */
+#define WICKTHRUSH_MOST_ROLES 64
+#define WICKTHRUSH_MOST_ROWS 128
+#define WICKTHRUSH_MOST_OPEN_SETS 15
+
+enum wickthrush_verdict { WICKTHRUSH_REPLY_DENY = 0, WICKTHRUSH_REPLY_ALLOW = 1 };
+
+enum wickthrush_kind { WICKTHRUSH_WITHDRAWN = 0, WICKTHRUSH_GIVEN = 1 };
+
+enum wickthrush_answer {
+    WICKTHRUSH_RECORDED = 0,
+    WICKTHRUSH_BAD_AREA = 1,
+    WICKTHRUSH_BAD_ROLE_COUNT = 2,
+    WICKTHRUSH_NO_PERMISSION = 3,
+    WICKTHRUSH_UNKNOWN_ROLE = 4,
+    WICKTHRUSH_BAD_VERDICT = 5,
+    WICKTHRUSH_CONTRADICTION = 6,
+    WICKTHRUSH_FULL = 7,
+    WICKTHRUSH_FORGOTTEN = 8,
+    WICKTHRUSH_DENY = 10,
+    WICKTHRUSH_ALLOW = 11,
+    WICKTHRUSH_UNDECIDED = 12
+};
+
+/* Makes an area of role_count roles in which nothing is known. The area may hold any bytes before.
+ *
+ * WICKTHRUSH_RECORDED        every byte of the area is written
+ * WICKTHRUSH_BAD_AREA        len is not WICKTHRUSH_AREA_BYTES; area unchanged
+ * WICKTHRUSH_BAD_ROLE_COUNT  role_count is not 1 to 64; area unchanged
+ */
+uint32_t wickthrush_open(uint8_t *area, size_t len, uint64_t role_count);
+
+/* Takes a reply about a session with the roles of set. It is taken as true at the moment of the call.
+ *
+ * WICKTHRUSH_RECORDED       the area has what was known before and the reply
+ * WICKTHRUSH_BAD_AREA       len is wrong or the bytes are no area; area unchanged
+ * WICKTHRUSH_NO_PERMISSION  permission is 0; area unchanged
+ * WICKTHRUSH_BAD_VERDICT    verdict is neither 0 (deny) nor 1 (allow); area unchanged
+ * WICKTHRUSH_UNKNOWN_ROLE   set has a role at or above the role count; area unchanged
+ * WICKTHRUSH_CONTRADICTION  no assignment that was possible agrees with the reply; area unchanged
+ * WICKTHRUSH_FULL           the permission's new row has no room; area unchanged
+ */
+uint32_t wickthrush_reply(uint8_t *area, size_t len, uint32_t permission, uint64_t verdict, uint64_t set);
+
+/* Takes a policy update: the permission was given to the role or withdrawn from it.
+ *
+ * WICKTHRUSH_RECORDED       the area has what still holds after the update, and the update
+ * WICKTHRUSH_BAD_AREA       len is wrong or the bytes are no area; area unchanged
+ * WICKTHRUSH_NO_PERMISSION  permission is 0; area unchanged
+ * WICKTHRUSH_BAD_VERDICT    kind is neither 0 (withdrawn) nor 1 (given); area unchanged
+ * WICKTHRUSH_UNKNOWN_ROLE   role is at or above the role count; area unchanged
+ * WICKTHRUSH_FORGOTTEN      the permission's new row has no room; nothing is known of this permission any more,
+ *                           everything else in the area stays
+ */
+uint32_t wickthrush_update(uint8_t *area, size_t len, uint32_t permission, uint64_t kind, uint64_t role);
+
+/* Decides whether a session with the roles of set may use the permission. Never changes the area.
+ *
+ * WICKTHRUSH_DENY           under every possible assignment it may not; always so for the empty set
+ * WICKTHRUSH_ALLOW          under every possible assignment it may
+ * WICKTHRUSH_UNDECIDED      neither
+ * WICKTHRUSH_BAD_AREA       len is wrong or the bytes are no area
+ * WICKTHRUSH_NO_PERMISSION  permission is 0
+ * WICKTHRUSH_UNKNOWN_ROLE   set has a role at or above the role count
+ */
+uint32_t wickthrush_decide(const uint8_t *area, size_t len, uint32_t permission, uint64_t set);
+
+/* Forgets everything about a permission.
+ *
+ * WICKTHRUSH_RECORDED       nothing is known of the permission, also where nothing was known before
+ * WICKTHRUSH_BAD_AREA       len is wrong or the bytes are no area; area unchanged
+ * WICKTHRUSH_NO_PERMISSION  permission is 0; area unchanged
+ */
+uint32_t wickthrush_forget(uint8_t *area, size_t len, uint32_t permission);
+
+#ifdef __cplusplus
+}
+#endif
+
+#endif

@@ -1,0 +1,654 @@
+/* The readings of document 01, the order of refusals, the layout rules, and the memory around the lent area. */
+#define _DEFAULT_SOURCE
+#include "groups.h"
+#include "second.h"
+#include "wickthrush.h"
+
+#include <string.h>
+#include <sys/mman.h>
+
+enum { BYTES = WICKTHRUSH_AREA_BYTES, WORDS = BYTES / 8, ROWS = 128, OPENS = 15 };
+
+static uint8_t area[BYTES], before[BYTES];
+
+/* The set of up to three roles. */
+#define BIT(role) (UINT64_C(1) << (role))
+#define SET2(a, b) (BIT(a) | BIT(b))
+#define SET3(a, b, c) (BIT(a) | BIT(b) | BIT(c))
+
+/* ---- readings */
+
+/* A line of the program (its letter, then a set or a role), and its answer.
+ * A small letter asks for row 0: u rows used, d denied set, c number of open sets, o and w the first two open sets. */
+struct step {
+    char letter;
+    uint64_t number;
+    uint64_t answer;
+};
+
+struct reading {
+    const char *name;
+    struct step steps[12];
+};
+
+/* Role count 8, permission 5. */
+static const struct reading readings[] = {
+    {"no row, decide on -", {{'Q', 0, 10}, {'u', 0, 0}}},
+    {"no row, decide on 0", {{'Q', BIT(0), 12}, {'u', 0, 0}}},
+    {"allow on -", {{'A', 0, 6}, {'u', 0, 0}}},
+    {"deny on -", {{'D', 0, 0}, {'u', 0, 0}}},
+    {"allow 2,3; withdraw 2", {{'A', SET2(2, 3), 0}, {'R', 2, 0}, {'Q', BIT(3), 12}, {'Q', BIT(2), 10}, {'c', 0, 0}}},
+    {"allow 2,3; deny 2", {{'A', SET2(2, 3), 0}, {'D', BIT(2), 0}, {'Q', BIT(3), 11}}},
+    {"allow 3; allow 3,4", {{'A', BIT(3), 0}, {'A', SET2(3, 4), 0}, {'c', 0, 1}, {'o', 0, BIT(3)}}},
+    {"allow 3,4; allow 3", {{'A', SET2(3, 4), 0}, {'A', BIT(3), 0}, {'c', 0, 1}, {'o', 0, BIT(3)}}},
+    {"deny 1,2; give 1", {{'D', SET2(1, 2), 0}, {'G', 1, 0}, {'Q', BIT(1), 11}, {'Q', BIT(2), 10}}},
+    {"allow 2,3; deny 2,3", {{'A', SET2(2, 3), 0}, {'D', SET2(2, 3), 6}}},
+    {"allow 1,2; allow 2,3", {{'A', SET2(1, 2), 0}, {'A', SET2(2, 3), 0}, {'Q', BIT(2), 12}}},
+    {"the worked case",
+     {{'D', SET2(1, 2), 0},
+      {'A', SET3(2, 3, 4), 0},
+      {'A', SET3(4, 5, 6), 0},
+      {'D', SET2(4, 7), 0},
+      {'d', 0, SET2(1, 2) | SET2(4, 7)},
+      {'c', 0, 2},
+      {'o', 0, BIT(3)},
+      {'w', 0, SET2(5, 6)},
+      {'Q', SET2(3, 4), 11},
+      {'Q', SET3(1, 4, 7), 10},
+      {'Q', SET2(1, 5), 12}}},
+    {"allow on a denied set",
+     {{'D', SET2(1, 2), 0}, {'A', BIT(1), 6}, {'A', SET2(1, 2), 6}, {'A', SET2(2, 3), 0}, {'o', 0, BIT(3)}}},
+    {"deny on part of an open set",
+     {{'A', SET3(1, 2, 3), 0}, {'D', BIT(1), 0}, {'D', SET2(2, 3), 6}, {'Q', SET2(2, 3), 11}}},
+    {"allow 2,3 twice", {{'A', SET2(2, 3), 0}, {'A', SET2(2, 3), 0}, {'c', 0, 1}, {'o', 0, SET2(2, 3)}}},
+    {"deny makes a part",
+     {{'A', SET2(2, 3), 0}, {'A', SET3(3, 4, 5), 0}, {'D', SET2(2, 4), 0}, {'c', 0, 1}, {'o', 0, BIT(3)}}},
+    {"give, then withdraw",
+     {{'G', 7, 0}, {'Q', BIT(7), 11}, {'R', 7, 0}, {'Q', BIT(7), 10}, {'d', 0, BIT(7)}, {'c', 0, 0}}},
+    {"give drops open sets with it",
+     {{'A', SET2(2, 3), 0}, {'G', 2, 0}, {'c', 0, 1}, {'o', 0, BIT(2)}, {'Q', BIT(3), 12}}},
+    {"forget", {{'A', BIT(2), 0}, {'F', 0, 0}, {'u', 0, 0}, {'Q', BIT(2), 12}, {'F', 0, 0}}},
+    {"unknown roles", {{'A', BIT(8), 4}, {'D', BIT(63), 4}, {'G', 8, 4}, {'R', 64, 4}, {'Q', BIT(8), 4}, {'u', 0, 0}}},
+};
+
+static uint64_t word(size_t at)
+{
+    return second_word(area, at);
+}
+
+static uint64_t done(const struct step *step)
+{
+    switch (step->letter) {
+    case 'A': return wickthrush_reply(area, BYTES, 5, 1, step->number);
+    case 'D': return wickthrush_reply(area, BYTES, 5, 0, step->number);
+    case 'G': return wickthrush_update(area, BYTES, 5, 1, step->number);
+    case 'R': return wickthrush_update(area, BYTES, 5, 0, step->number);
+    case 'Q': return wickthrush_decide(area, BYTES, 5, step->number);
+    case 'F': return wickthrush_forget(area, BYTES, 5);
+    case 'u': return word(1);
+    case 'd': return word(second_denied_at(0));
+    case 'c': return word(second_count_at(0));
+    case 'o': return word(second_open_at(0, 0));
+    default: return word(second_open_at(0, 1));
+    }
+}
+
+static void open_area(uint64_t n)
+{
+    check(wickthrush_open(area, BYTES, n) == 0, "open with %llu roles", (unsigned long long)n);
+}
+
+static void table_of_readings(void)
+{
+    group("readings with 8 roles");
+    for (size_t i = 0; i < sizeof readings / sizeof readings[0]; i++) {
+        open_area(8);
+        for (const struct step *step = readings[i].steps; step->letter; step++) {
+            uint64_t answer = done(step);
+            check(answer == step->answer, "%s, step %d: %llu instead of %llu", readings[i].name,
+                  (int)(step - readings[i].steps + 1), (unsigned long long)answer, (unsigned long long)step->answer);
+        }
+    }
+}
+
+static void role_counts(void)
+{
+    static const uint64_t bad[] = {0, 65, 66, 128, 255, 256, 257, BIT(32), BIT(32) + 8, BIT(63), UINT64_MAX};
+    group("role counts");
+    for (uint64_t n = 1; n <= 64; n++) {
+        open_area(n);
+        check(word(0) == n && word(1) == 0, "open with %llu roles writes other words", (unsigned long long)n);
+        for (uint64_t kind = 0; kind <= 1; kind++) {
+            check(wickthrush_update(area, BYTES, 5, kind, n - 1) == 0, "role %llu is unknown",
+                  (unsigned long long)n - 1);
+            check(wickthrush_decide(area, BYTES, 5, BIT(n - 1)) == 10 + kind, "role %llu, update %llu",
+                  (unsigned long long)n - 1, (unsigned long long)kind);
+            check(wickthrush_reply(area, BYTES, 6, kind, BIT(n - 1)) == (kind ? 6 : 0), "reply on role %llu",
+                  (unsigned long long)n - 1);
+            check(wickthrush_update(area, BYTES, 5, kind, n) == 4, "role %llu of as many is known",
+                  (unsigned long long)n);
+            if (n < 64)
+                check(wickthrush_reply(area, BYTES, 5, kind, BIT(n)) == 4, "a set with role %llu of as many",
+                      (unsigned long long)n);
+        }
+    }
+    check(wickthrush_reply(area, BYTES, 7, 0, UINT64_MAX) == 0 && wickthrush_decide(area, BYTES, 7, UINT64_MAX) == 10,
+          "all 64 roles denied");
+    memcpy(before, area, BYTES);
+    for (size_t i = 0; i < sizeof bad / sizeof bad[0]; i++)
+        check(wickthrush_open(area, BYTES, bad[i]) == 2 && memcmp(area, before, BYTES) == 0, "role count %llu",
+              (unsigned long long)bad[i]);
+}
+
+/* 15 one-role open sets fit; a 16th open set is refused in a reply, and forgets the row in an update. */
+static void open_sets(void)
+{
+    static uint8_t empty[BYTES];
+    group("15 open sets fit");
+    for (uint64_t n = 16; n <= 64; n++) {
+        uint64_t last = n - 1, low = n - 16;
+        open_area(n);
+        memcpy(empty, area, BYTES);
+        for (uint64_t r = low; r < last; r++)
+            check(wickthrush_reply(area, BYTES, 5, 1, BIT(r)) == 0, "one-role set %llu", (unsigned long long)r);
+        check(word(second_count_at(0)) == OPENS, "not 15 open sets");
+        memcpy(before, area, BYTES);
+        check(wickthrush_reply(area, BYTES, 5, 1, BIT(last)) == 7, "a 16th open set isn't 7");
+        check(wickthrush_reply(area, BYTES, 5, 1, SET2(low, last)) == 0, "a set that reducing drops isn't 0");
+        check(wickthrush_update(area, BYTES, 5, 1, low) == 0, "giving a proved role isn't 0");
+        check(memcmp(area, before, BYTES) == 0, "the area changed");
+        check(wickthrush_update(area, BYTES, 5, 1, last) == 8, "giving a 16th role isn't 8");
+        check(memcmp(area, empty, BYTES) == 0, "the row isn't gone");
+    }
+    /* Full is judged after reducing: a set that takes the place of two others fits. */
+    open_area(32);
+    for (uint64_t r = 0; r < OPENS; r++)
+        check(wickthrush_reply(area, BYTES, 5, 1, r < 2 ? SET2(30, r) : SET2(2 * r, 2 * r + 1)) == 0, "15 open sets");
+    check(wickthrush_reply(area, BYTES, 5, 1, SET2(2, 3)) == 7, "a 16th set isn't 7");
+    check(wickthrush_reply(area, BYTES, 5, 1, BIT(30)) == 0, "a set that takes the place of two isn't 0");
+    check(word(second_count_at(0)) == OPENS - 1, "not 14 open sets");
+}
+
+static void rows(void)
+{
+    group("128 rows fit");
+    for (unsigned order = 0; order < 3; order++) {
+        open_area(8);
+        /* Ascending, descending, and mixed; none is permission 5. */
+        for (uint32_t i = 0; i < ROWS; i++) {
+            uint32_t k = order == 0 ? i : order == 1 ? ROWS - 1 - i : i * 37 % ROWS;
+            check(wickthrush_reply(area, BYTES, 1000 + 3 * k, k % 2, BIT(k % 8)) == 0, "row %lu", (unsigned long)k);
+        }
+        check(word(1) == ROWS && second_good(area), "not 128 good rows");
+        memcpy(before, area, BYTES);
+        check(wickthrush_reply(area, BYTES, 5, 0, BIT(0)) == 7, "deny on 0 isn't 7");
+        check(wickthrush_reply(area, BYTES, 5, 1, BIT(0)) == 7, "allow on 0 isn't 7");
+        check(wickthrush_reply(area, BYTES, 5, 1, 0) == 6, "allow on - isn't 6");
+        check(wickthrush_reply(area, BYTES, 5, 0, 0) == 0, "deny on - isn't 0");
+        check(wickthrush_update(area, BYTES, 5, 0, 0) == 8, "withdraw 0 isn't 8");
+        check(wickthrush_update(area, BYTES, 5, 1, 0) == 8, "give 0 isn't 8");
+        check(wickthrush_forget(area, BYTES, 5) == 0, "forget of a permission without a row isn't 0");
+        check(wickthrush_decide(area, BYTES, 5, BIT(0)) == 12, "decide without a row isn't 12");
+        check(memcmp(area, before, BYTES) == 0, "the area changed");
+        check(wickthrush_update(area, BYTES, 1003, 1, 7) == 0, "an update on a used row isn't 0");
+        check(wickthrush_reply(area, BYTES, 5, 0, BIT(0)) == 7, "deny on 0 still isn't 7");
+        check(wickthrush_forget(area, BYTES, 1000 + 3 * 64) == 0, "forget isn't 0");
+        check(word(1) == ROWS - 1 && second_good(area), "not 127 good rows");
+        check(wickthrush_reply(area, BYTES, 5, 0, BIT(0)) == 0, "after one forget deny on 0 isn't 0");
+        check(wickthrush_decide(area, BYTES, 5, BIT(0)) == 10, "the new row doesn't deny");
+    }
+}
+
+/* Every mix of faults: the answer is the first of 1, 3, 5, 4, 6 that applies. */
+static void order_of_refusals(void)
+{
+    group("order of refusals");
+    for (unsigned faults = 0; faults < 64; faults++) {
+        bool broken = faults & 1, no_permission = faults & 2, bad_kind = faults & 4, unknown = faults & 8,
+             against = faults & 16;
+        size_t len = faults & 32 ? BYTES - 1 : BYTES;
+        open_area(8);
+        check(wickthrush_reply(area, BYTES, 5, 0, BIT(1)) == 0, "deny 1");
+        if (broken)
+            area[BYTES - 1] = 1;
+        memcpy(before, area, BYTES);
+        uint32_t permission = no_permission ? 0 : 5;
+        uint64_t set = (against ? BIT(1) : 0) | (unknown ? BIT(8) : 0);
+        uint32_t area_or_permission = broken || len != BYTES ? 1 : no_permission ? 3 : 0;
+        uint32_t first = area_or_permission ? area_or_permission : bad_kind ? 5 : unknown ? 4 : 0;
+        uint32_t reply = first ? first : 6;
+        check(wickthrush_reply(area, len, permission, bad_kind ? 2 : 1, set) == reply, "reply with faults %#x", faults);
+        check(wickthrush_update(area, len, permission, bad_kind ? BIT(32) : 0, unknown ? 8 : 1) == first,
+              "update with faults %#x", faults);
+        uint32_t decide = area_or_permission ? area_or_permission : unknown ? 4 : 10;
+        check(wickthrush_decide(area, len, permission, set) == decide, "decide with faults %#x", faults);
+        if (area_or_permission)
+            check(wickthrush_forget(area, len, permission) == area_or_permission, "forget with faults %#x", faults);
+        check(wickthrush_open(area, len, against ? 0 : 65) == (len != BYTES ? 1 : 2), "open with faults %#x", faults);
+        check(memcmp(area, before, BYTES) == 0, "faults %#x changed the area", faults);
+    }
+}
+
+/* Numbers that look good in their lower 8, 16 or 32 bits. */
+static void wide_numbers(void)
+{
+    group("numbers beyond their range, as whole 64-bit numbers");
+    open_area(8);
+    check(wickthrush_reply(area, BYTES, 5, 0, BIT(1)) == 0, "deny 1");
+    memcpy(before, area, BYTES);
+    for (unsigned high = 3; high < 64; high++) {
+        for (uint64_t low = 0; low <= 1; low++) {
+            uint64_t number = BIT(high) + low;
+            check(wickthrush_reply(area, BYTES, 5, number, BIT(2)) == 5, "verdict 2^%u + %llu", high,
+                  (unsigned long long)low);
+            check(wickthrush_update(area, BYTES, 5, number, 2) == 5, "kind 2^%u + %llu", high, (unsigned long long)low);
+            check(wickthrush_update(area, BYTES, 5, low, number) == 4, "role 2^%u + %llu", high,
+                  (unsigned long long)low);
+            uint64_t unknown = high < 8 ? BIT(8) : BIT(high);
+            check(wickthrush_reply(area, BYTES, 5, low, unknown | BIT(2)) == 4, "a set with role %u", high);
+            check(wickthrush_decide(area, BYTES, 5, unknown | low) == 4, "a session with role %u", high);
+        }
+        if (high > 6)
+            check(wickthrush_open(area, BYTES, BIT(high) + 8) == 2, "role count 2^%u + 8", high);
+    }
+    check(memcmp(area, before, BYTES) == 0, "the area changed");
+}
+
+/* ---- bad areas */
+
+/* Every call but open answers 1 and leaves the area alone, whatever its numbers. */
+static void refused(const char *name, size_t len)
+{
+    memcpy(before, area, BYTES);
+    uint32_t answers[] = {
+        wickthrush_reply(area, len, 5, 0, 0),
+        wickthrush_reply(area, len, 5, 1, 1),
+        wickthrush_reply(area, len, 0, 2, UINT64_MAX),
+        wickthrush_update(area, len, 5, 0, 0),
+        wickthrush_update(area, len, 0, 2, 64),
+        wickthrush_decide(area, len, 5, 0),
+        wickthrush_decide(area, len, 0, UINT64_MAX),
+        wickthrush_forget(area, len, 5),
+        wickthrush_forget(area, len, 0),
+    };
+    for (size_t i = 0; i < sizeof answers / sizeof answers[0]; i++)
+        check(answers[i] == 1, "%s: call %zu answers %lu", name, i, (unsigned long)answers[i]);
+    check(memcmp(area, before, BYTES) == 0, "%s: the area changed", name);
+}
+
+static void accepted(const char *name)
+{
+    check(wickthrush_decide(area, BYTES, 5, 0) == 10, "%s: a good area is refused", name);
+    check(second_good(area), "%s: the second program calls it bad", name);
+}
+
+static void put_row(size_t row, uint64_t permission, uint64_t denied, size_t count, const uint64_t *open)
+{
+    second_put(area, second_permission_at(row), permission);
+    second_put(area, second_count_at(row), count);
+    second_put(area, second_denied_at(row), denied);
+    for (size_t k = 0; k < count; k++)
+        second_put(area, second_open_at(row, k), open[k]);
+}
+
+/* The good areas that are broken: without rows, with three, and with 128 rows of 15 open sets. */
+enum base { NO_ROWS, THREE_ROWS, ALL_ROWS };
+
+static void make(enum base base)
+{
+    memset(area, 0, BYTES);
+    second_put(area, 0, base == ALL_ROWS ? 17 : 8);
+    if (base == THREE_ROWS) {
+        second_put(area, 1, 3);
+        put_row(0, 4, SET2(1, 2), 2, (uint64_t[]){BIT(3), SET2(5, 6)});
+        put_row(1, 5, BIT(7), 0, NULL);
+        put_row(2, 70000, 0, 3, (uint64_t[]){SET2(0, 1), SET2(1, 2), SET2(0, 7)});
+    }
+    if (base == ALL_ROWS) {
+        uint64_t open[OPENS];
+        for (size_t k = 0; k < OPENS; k++)
+            open[k] = BIT(k);
+        second_put(area, 1, ROWS);
+        for (size_t row = 0; row < ROWS; row++)
+            put_row(row, row == ROWS - 1 ? UINT32_MAX : 1 + 33 * row, BIT(15), OPENS, open);
+    }
+}
+
+/* One rule broken: which words become what. */
+#define N 0
+#define USED 1
+#define PERMISSION(row) (2 + 2 * (row))
+#define COUNT(row) (3 + 2 * (row))
+#define DENIED(row) (258 + 16 * (row))
+#define OPEN(row, k) (259 + 16 * (row) + (k))
+
+struct breach {
+    const char *rule;
+    enum base base;
+    struct {
+        size_t at;
+        uint64_t value;
+    } change[2];
+};
+
+/* A second change at word 0 is none. */
+static const struct breach breaches[] = {
+    {"role count 0", NO_ROWS, {{N, 0}}},
+    {"role count 65", NO_ROWS, {{N, 65}}},
+    {"role count 65 with rows", THREE_ROWS, {{N, 65}}},
+    {"role count 2^8 + 8", THREE_ROWS, {{N, BIT(8) + 8}}},
+    {"role count 2^32 + 8", THREE_ROWS, {{N, BIT(32) + 8}}},
+    {"role count 2^63", NO_ROWS, {{N, BIT(63)}}},
+    {"role count 2^64 - 1", NO_ROWS, {{N, UINT64_MAX}}},
+    {"129 rows", ALL_ROWS, {{USED, 129}}},
+    {"2^32 + 128 rows", ALL_ROWS, {{USED, BIT(32) + 128}}},
+    {"2^32 rows", NO_ROWS, {{USED, BIT(32)}}},
+    {"2^63 + 3 rows", THREE_ROWS, {{USED, BIT(63) + 3}}},
+    {"2^64 - 1 rows", ALL_ROWS, {{USED, UINT64_MAX}}},
+    {"one row too few", THREE_ROWS, {{USED, 2}}},
+    {"one row too many", THREE_ROWS, {{USED, 4}}},
+    {"a row without contents", NO_ROWS, {{USED, 1}}},
+    {"16 open sets in the first row", ALL_ROWS, {{COUNT(0), 16}}},
+    {"16 open sets in the last row", ALL_ROWS, {{COUNT(127), 16}}},
+    {"2^32 + 2 open sets", THREE_ROWS, {{COUNT(0), BIT(32) + 2}}},
+    {"2^8 + 2 open sets", THREE_ROWS, {{COUNT(0), BIT(8) + 2}}},
+    {"2^64 - 1 open sets", ALL_ROWS, {{COUNT(127), UINT64_MAX}}},
+    {"one open set too few", THREE_ROWS, {{COUNT(2), 2}}},
+    {"one open set too many", THREE_ROWS, {{COUNT(0), 3}}},
+    {"permission 0", THREE_ROWS, {{PERMISSION(0), 0}}},
+    {"permission 2^32", THREE_ROWS, {{PERMISSION(2), BIT(32)}}},
+    {"permission 2^32 + 70000", THREE_ROWS, {{PERMISSION(2), BIT(32) + 70000}}},
+    {"permission 2^64 - 1", ALL_ROWS, {{PERMISSION(127), UINT64_MAX}}},
+    {"first permission 2^32 + 4", THREE_ROWS, {{PERMISSION(0), BIT(32) + 4}}},
+    {"permissions equal", THREE_ROWS, {{PERMISSION(0), 5}}},
+    {"permissions descending", THREE_ROWS, {{PERMISSION(1), 3}}},
+    {"last permissions equal", ALL_ROWS, {{PERMISSION(126), UINT32_MAX}}},
+    {"last permission descending", ALL_ROWS, {{PERMISSION(127), 1}}},
+    {"first permissions exchanged", ALL_ROWS, {{PERMISSION(0), 34}, {PERMISSION(1), 1}}},
+    {"a gap among open sets", THREE_ROWS, {{OPEN(2, 2), 0}, {OPEN(2, 3), SET2(0, 7)}}},
+    {"an open set behind the last", THREE_ROWS, {{OPEN(0, 2), BIT(4)}}},
+    {"an open set in the last place", THREE_ROWS, {{OPEN(0, 14), BIT(7)}}},
+    {"an open set in a row without any", THREE_ROWS, {{OPEN(1, 0), BIT(0)}}},
+    {"a row that says nothing", THREE_ROWS, {{DENIED(1), 0}}},
+    {"denied role n", THREE_ROWS, {{DENIED(1), SET2(7, 8)}}},
+    {"denied role 63", THREE_ROWS, {{DENIED(1), BIT(63)}}},
+    {"denied role n in the last row", ALL_ROWS, {{DENIED(127), BIT(17)}}},
+    {"open role n", THREE_ROWS, {{OPEN(2, 2), SET2(0, 8)}}},
+    {"open role 63", THREE_ROWS, {{OPEN(0, 1), SET2(5, 63)}}},
+    {"open role n in the last place", ALL_ROWS, {{OPEN(127, 14), BIT(17)}}},
+    {"fewer roles than sets have", THREE_ROWS, {{N, 7}}},
+    {"an empty open set", THREE_ROWS, {{OPEN(0, 0), 0}}},
+    {"only an empty open set", THREE_ROWS, {{COUNT(1), 1}}},
+    {"an open set with a denied role", THREE_ROWS, {{OPEN(0, 1), SET2(5, 6) | BIT(2)}}},
+    {"a denied role in an open set", THREE_ROWS, {{DENIED(0), SET3(1, 2, 5)}}},
+    {"a denied role in the last open set", ALL_ROWS, {{DENIED(127), SET2(14, 15)}}},
+    {"open sets exchanged", THREE_ROWS, {{OPEN(2, 1), SET2(0, 7)}, {OPEN(2, 2), SET2(1, 2)}}},
+    {"open sets equal", THREE_ROWS, {{OPEN(2, 1), SET2(0, 1)}}},
+    {"an open set part of the next", THREE_ROWS, {{OPEN(2, 1), SET3(0, 1, 2)}}},
+    {"an open set part of a later one", THREE_ROWS, {{OPEN(2, 2), SET3(0, 1, 7)}}},
+};
+
+static void broken_rules(void)
+{
+    group("each layout rule broken by itself");
+    for (size_t i = 0; i < sizeof breaches / sizeof breaches[0]; i++) {
+        const struct breach *breach = &breaches[i];
+        make(breach->base);
+        accepted(breach->rule);
+        second_put(area, breach->change[0].at, breach->change[0].value);
+        if (breach->change[1].at != 0)
+            second_put(area, breach->change[1].at, breach->change[1].value);
+        check(!second_good(area), "%s: the second program calls it good", breach->rule);
+        refused(breach->rule, BYTES);
+    }
+}
+
+/* Breaks one rule in one place, and sees only that it is refused. */
+static void refused_with(const char *rule, size_t at, uint64_t value, size_t other, uint64_t other_value)
+{
+    uint64_t old = word(at), other_old = word(other);
+    second_put(area, at, value);
+    second_put(area, other, other_value);
+    check(wickthrush_decide(area, BYTES, 5, 0) == 1, "%s: words %zu and %zu", rule, at, other);
+    second_put(area, other, other_old);
+    second_put(area, at, old);
+}
+
+static void broken_pairs(void)
+{
+    static const size_t some_rows[] = {0, 1, 62, 127};
+    group("each pair of open sets and each row broken");
+    make(ALL_ROWS);
+    for (size_t i = 0; i < sizeof some_rows / sizeof some_rows[0]; i++) {
+        size_t row = some_rows[i];
+        for (size_t k = 0; k < OPENS; k++) {
+            refused_with("empty", OPEN(row, k), 0, N, 17);
+            refused_with("denied", OPEN(row, k), BIT(k) | BIT(15), N, 17);
+            refused_with("unknown role", OPEN(row, k), BIT(k) | BIT(17), N, 17);
+            for (size_t j = 0; j < k; j++) {
+                refused_with("part", OPEN(row, k), SET2(j, k), N, 17);
+                refused_with("exchanged", OPEN(row, k), BIT(j), OPEN(row, j), BIT(k));
+            }
+        }
+    }
+    for (size_t row = 0; row < ROWS; row++) {
+        refused_with("16 open sets", COUNT(row), 16, N, 17);
+        refused_with("permission 0", PERMISSION(row), 0, N, 17);
+        refused_with("permission 2^32", PERMISSION(row), BIT(32) + 33 * row, N, 17);
+        refused_with("denied role n", DENIED(row), BIT(17), N, 17);
+        if (row > 0)
+            refused_with("permissions equal", PERMISSION(row), word(PERMISSION(row - 1)), N, 17);
+    }
+    accepted("after all");
+}
+
+/* Every byte that is not in use must be zero. */
+static void unused_bytes(void)
+{
+    bool used[WORDS];
+    group("each unused byte not zero");
+    for (enum base base = NO_ROWS; base <= THREE_ROWS; base++) {
+        make(base);
+        memset(used, 0, sizeof used);
+        used[N] = used[USED] = true;
+        for (size_t row = 0; row < word(USED); row++) {
+            used[PERMISSION(row)] = used[COUNT(row)] = used[DENIED(row)] = true;
+            for (size_t k = 0; k < word(COUNT(row)); k++)
+                used[OPEN(row, k)] = true;
+        }
+        for (size_t i = 0; i < BYTES; i++) {
+            if (used[i / 8])
+                continue;
+            area[i] = (uint8_t)(1 << any_below(8));
+            check(wickthrush_decide(area, BYTES, 5, 0) == 1, "byte %zu", i);
+            area[i] = 0;
+        }
+        accepted("after all");
+    }
+}
+
+static void lengths(void)
+{
+    static const size_t wrong[] = {0,
+                                   1,
+                                   8,
+                                   BYTES / 2,
+                                   BYTES - 8,
+                                   BYTES - 1,
+                                   BYTES + 1,
+                                   BYTES + 8,
+                                   18456,
+                                   18968,
+                                   2 * BYTES,
+                                   (size_t)1 << 31,
+                                   ((size_t)1 << 32) + BYTES,
+                                   ((size_t)1 << 63) + BYTES,
+                                   SIZE_MAX};
+    group("areas of wrong length");
+    make(THREE_ROWS);
+    accepted("right length");
+    for (size_t i = 0; i < sizeof wrong / sizeof wrong[0]; i++) {
+        refused("wrong length", wrong[i]);
+        check(wickthrush_open(area, wrong[i], 8) == 1, "open with length %zu", wrong[i]);
+        check(wickthrush_open(area, wrong[i], 0) == 1, "open with length %zu and no roles", wrong[i]);
+        check(memcmp(area, before, BYTES) == 0, "length %zu: the area changed", wrong[i]);
+    }
+    check(wickthrush_decide(NULL, 0, 5, 0) == 1, "decide on nothing");
+    check(wickthrush_open(NULL, 0, 8) == 1, "open on nothing");
+}
+
+/* An area after open: the role count, then zeros. */
+static void opened(const char *name, uint64_t n)
+{
+    memset(before, 0, BYTES);
+    second_put(before, 0, n);
+    check(wickthrush_open(area, BYTES, n) == 0, "%s: open isn't 0", name);
+    check(memcmp(area, before, BYTES) == 0, "%s: open left other bytes", name);
+}
+
+static void any_bytes(void)
+{
+    group("random bytes are no area, and open takes them");
+    for (unsigned round = 0; round < 300; round++) {
+        for (size_t i = 0; i < BYTES; i++)
+            area[i] = (uint8_t)any();
+        /* Half of them look good up to the rows. */
+        if (round % 2) {
+            second_put(area, N, 1 + any_below(64));
+            second_put(area, USED, any_below(129));
+        }
+        refused("random bytes", BYTES);
+        opened("random bytes", 1 + any_below(64));
+    }
+    for (unsigned byte = 0; byte < 256; byte++) {
+        memset(area, (int)byte, BYTES);
+        refused("equal bytes", BYTES);
+        opened("equal bytes", 64);
+    }
+}
+
+static size_t any_place(void)
+{
+    size_t row = any_below(4);
+    switch (any_below(7)) {
+    case 0: return N;
+    case 1: return USED;
+    case 2: return PERMISSION(row);
+    case 3: return COUNT(row);
+    case 4: return DENIED(row);
+    default: return OPEN(row, any_below(4));
+    }
+}
+
+static uint64_t any_value(uint64_t old)
+{
+    uint64_t role = any_below(8);
+    switch (any_below(6)) {
+    case 0: return old + 1;
+    case 1: return old - 1;
+    case 2: return old ^ BIT(any_below(9));
+    case 3: return any_below(9);
+    case 4: return BIT(any_below(64));
+    default: return SET2(role, any_below(8));
+    }
+}
+
+/* Good areas with a few words changed: the library refuses exactly those that break a rule. */
+static void changed_words(void)
+{
+    unsigned good = 0, bad = 0;
+    group("areas with changed words against the rules of the layout");
+    for (unsigned round = 0; round < 20000; round++) {
+        make(THREE_ROWS);
+        for (uint64_t changes = 1 + any_below(3); changes > 0; changes--) {
+            size_t at = any_place();
+            second_put(area, at, any_value(word(at)));
+        }
+        bool is_good = second_good(area);
+        *(is_good ? &good : &bad) += 1;
+        uint32_t answer = wickthrush_decide(area, BYTES, 9, 0);
+        check(answer == (is_good ? 10 : 1), "a changed area that is %s answers %lu", is_good ? "good" : "bad",
+              (unsigned long)answer);
+    }
+    check(good > 1000 && bad > 1000, "%u good and %u bad areas are too few", good, bad);
+}
+
+/* ---- the memory around */
+
+/* A short stream with every kind of call; its area must be the same wherever it stands. */
+static void short_stream(uint8_t *at)
+{
+    static uint8_t first[BYTES];
+    static bool has_first;
+    uint32_t answers[] = {
+        wickthrush_open(at, BYTES, 64),
+        wickthrush_reply(at, BYTES, 9, 0, SET2(1, 63)),
+        wickthrush_reply(at, BYTES, UINT32_MAX, 1, SET2(0, 62)),
+        wickthrush_reply(at, BYTES, 1, 1, SET2(3, 4)),
+        wickthrush_update(at, BYTES, 5, 1, 63),
+        wickthrush_forget(at, BYTES, 9),
+    };
+    for (size_t i = 0; i < sizeof answers / sizeof answers[0]; i++)
+        check(answers[i] == 0, "call %zu of the stream", i);
+    for (uint32_t permission = 10; permission < 200; permission++)
+        check(wickthrush_reply(at, BYTES, permission, 0, permission) == (permission < 135 ? 0 : 7), "row of %lu",
+              (unsigned long)permission);
+    check(wickthrush_update(at, BYTES, 300, 0, 0) == 8, "update without room");
+    check(wickthrush_decide(at, BYTES, 5, BIT(63)) == 11, "decide");
+    check(wickthrush_decide(at, BYTES - 1, 5, BIT(63)) == 1, "decide, one byte short");
+    if (!has_first)
+        memcpy(first, at, BYTES);
+    has_first = true;
+    check(memcmp(at, first, BYTES) == 0, "the area has other bytes here");
+}
+
+static void guard_bytes(void)
+{
+    enum { GUARD = 64 };
+    static _Alignas(64) uint8_t memory[GUARD + 16 + BYTES + GUARD];
+    group("guard bytes at every alignment");
+    for (size_t shift = 0; shift < 16; shift++) {
+        for (size_t i = 0; i < sizeof memory; i++)
+            memory[i] = (uint8_t)(i * 7 + 1);
+        short_stream(memory + GUARD + shift);
+        for (size_t i = 0; i < sizeof memory; i++)
+            if (i < GUARD + shift || i >= GUARD + shift + BYTES)
+                check(memory[i] == (uint8_t)(i * 7 + 1), "alignment %zu: guard byte %zu changed", shift, i);
+    }
+}
+
+/* Memory that nobody may touch stands right before or right behind the area; reading it ends this program. */
+static void guard_pages(void)
+{
+    enum { PAGE = 65536 };
+    group("forbidden memory around the area, and decide on memory that can't be written");
+    uint8_t *memory = mmap(NULL, 3 * PAGE, PROT_NONE, MAP_PRIVATE | MAP_ANONYMOUS, -1, 0);
+    if (!check(memory != MAP_FAILED && mprotect(memory + PAGE, PAGE, PROT_READ | PROT_WRITE) == 0, "no memory"))
+        return;
+    short_stream(memory + PAGE);
+    short_stream(memory + 2 * PAGE - BYTES);
+    check(mprotect(memory + PAGE, PAGE, PROT_READ) == 0, "not protected");
+    check(wickthrush_decide(memory + PAGE, BYTES, 5, BIT(63)) == 11, "decide at the start");
+    check(wickthrush_decide(memory + 2 * PAGE - BYTES, BYTES, 5, BIT(0)) == 12, "decide at the end");
+    check(wickthrush_decide(memory + PAGE + 1, BYTES, 5, BIT(0)) == 1, "decide one byte off");
+    munmap(memory, 3 * PAGE);
+}
+
+int main(void)
+{
+    table_of_readings();
+    role_counts();
+    open_sets();
+    rows();
+    order_of_refusals();
+    wide_numbers();
+    lengths();
+    broken_rules();
+    broken_pairs();
+    unused_bytes();
+    any_bytes();
+    changed_words();
+    guard_bytes();
+    guard_pages();
+    return finish();
+}

@@ -1,0 +1,60 @@
+/* The second program: what document 01 says of every call, worked out by enumerating holder sets.
+ * It keeps no rows and has no steps; it shares nothing with the cache but the numbers of document 01. */
+#ifndef SECOND_H
+#define SECOND_H
+
+#include <stdbool.h>
+#include <stddef.h>
+#include <stdint.h>
+
+enum {
+    SECOND_ROLES = 6, /* the largest role count it can enumerate: its 64 holder sets fill one number */
+    SECOND_ROWS = 128,
+    SECOND_OPENS = 15,
+    SECOND_MINIMAL = 20, /* the most sets of 6 roles of which none is part of another */
+    SECOND_BYTES = 18448
+};
+
+/* Holder sets that are possible for a permission: bit h stands for the holder set h. */
+typedef uint64_t second_sets;
+
+struct second {
+    uint64_t n; /* 0 until opened: every call but open then finds a bad area */
+    size_t used;
+    uint32_t permission[SECOND_ROWS]; /* ascending: those for which not every holder set is possible */
+    second_sets possible[SECOND_ROWS];
+};
+
+/* The reduced form, read off the possible holder sets. */
+struct second_row {
+    uint64_t denied;
+    size_t count;
+    uint64_t open[SECOND_MINIMAL]; /* ascending */
+};
+
+/* The calls of the C side. A role count above SECOND_ROLES is beyond this program and ends it. */
+uint32_t second_open(struct second *second, size_t len, uint64_t n);
+uint32_t second_reply(struct second *second, size_t len, uint32_t permission, uint64_t verdict, uint64_t set);
+uint32_t second_update(struct second *second, size_t len, uint32_t permission, uint64_t kind, uint64_t role);
+uint32_t second_decide(const struct second *second, size_t len, uint32_t permission, uint64_t set);
+uint32_t second_forget(struct second *second, size_t len, uint32_t permission);
+
+second_sets second_all(uint64_t n);
+second_sets second_possible(const struct second *second, uint32_t permission);
+struct second_row second_row(second_sets possible, uint64_t n);
+
+/* The bytes that the area must have. */
+void second_area(const struct second *second, uint8_t *area);
+
+/* Whether an area of the right length obeys every layout rule, for any role count. */
+bool second_good(const uint8_t *area);
+
+/* Places of words in the area, rows and open sets counted from 0. */
+size_t second_permission_at(size_t row);
+size_t second_count_at(size_t row);
+size_t second_denied_at(size_t row);
+size_t second_open_at(size_t row, size_t open);
+uint64_t second_word(const uint8_t *area, size_t at);
+void second_put(uint8_t *area, size_t at, uint64_t value);
+
+#endif
