@@ -13,7 +13,7 @@ use Rattle.area.specs.Layout.{goodBytes}
 use Rattle.area.specs.State.{withRow, stateOf, areaOf}
 use Rattle.cache.specs.declared.Answer.{Answer}
 use Rattle.cache.specs.declared.Answer.the-variants.{Done, BadArea, NoPermission, BadNumber}
-use Rattle.cache.specs.Calls.{Out, stays, holds, valid, eventOf, replied, updated, onArea, replyOf, updateOf, forgetOf}
+use Rattle.cache.specs.Calls.{Out, stays, valid, eventOf, replied, updated, onArea, replyOf, updateOf, forgetOf}
 use Rattle.cache.specs.Answers.{Gives}
 use Rattle.cache.proofs.Ladder.{gives}
 

@@ -1,10 +1,10 @@
 -- The answer to an event on a good area, by what the row's step comes to. Assumes nothing.
-use mathlib.Core.Path.{_≡_, refl, sym, ap, _∙_, subst⁻¹}
+use mathlib.Core.Path.{_≡_, refl, sym, ap, _∙_}
 use mathlib.Core.Bool.{Bool, true, false, not, cond, _&&_, _||_}
 use mathlib.Core.List.{List}
 use Prim.Native.Nat.{ℕ, _≤_, _<_}
 use borrow.Author.Tests.{lt-ltb, le-ltb}
-use lib.Dec.{T, ltb}
+use lib.Dec.{ltb}
 use lib.ListN.{length}
 use Rattle.meaning.specs.declared.Happening.{Happening}
 use Rattle.meaning.specs.declared.Happening.the-variants.{Allow, Deny, Given, Withdrawn}
@@ -12,7 +12,7 @@ use Rattle.meaning.specs.Events.{known}
 use Rattle.meaning.specs.Rows.{Row, blank, fits, contradicts, step, Settled, unchanged, forgotten, overflow, settle}
 use Rattle.meaning.proofs.Verdicts.{unlike}
 use Rattle.area.specs.Layout.{mostRows}
-use Rattle.area.specs.State.{State, isBlank, rowFor, withRow, areaOf}
+use Rattle.area.specs.State.{State, isBlank, rowFor, withRow}
 use Rattle.cache.specs.declared.Answer.{Answer}
 use Rattle.cache.specs.Calls.{Out, stays, holds, isReply, fitsIn, eventOn}
 use Rattle.cache.specs.Answers.{numberOf, Gives}

@@ -8,4 +8,8 @@ mod Fronts
 pub mod Invariant
 pub mod Grounds
 pub mod Streams
+mod Decisions
+mod Areas
+mod AreaReadings
+mod Numbers
 pub mod Demands

@@ -1,24 +1,21 @@
 -- The state after a row is overwritten, made or taken out, and what is known of rows by value. Assumes nothing.
-use mathlib.Core.Path.{_≡_, refl, sym, ap, _∙_, subst, subst⁻¹}
-use mathlib.Core.Bool.{Bool, true, false, not}
+use mathlib.Core.Path.{_≡_, sym, ap, _∙_, subst, subst⁻¹}
+use mathlib.Core.Bool.{true, false}
 use mathlib.Core.List.{List}
 use Prim.Native.Nat.{ℕ, _≤_, _<_}
 use native.Mathlib.Omega.{arith}
 use lib.Dec.{T}
 use lib.Pow.{pow-mono}
 use lib.ListN.{length, set}
-use Rattle.words.specs.Words.{words}
 use Rattle.words.proofs.Laws.{Bytes}
 use Rattle.meaning.specs.declared.Happening.{Happening}
-use Rattle.roles.specs.Sets.{allBelow, partOf}
 use Rattle.roles.proofs.Laws.{partOf-allBelow}
 use Rattle.meaning.specs.Events.{about, known}
 use Rattle.meaning.specs.Rows.{Row, blank, mostOpens, fits, settle}
 use Rattle.meaning.proofs.Answers.{fits-law}
 use Rattle.meaning.proofs.Theorems.{settle-fits}
-use Rattle.area.specs.Layout.{areaBytes, mostRows, goodBytes}
-use Rattle.area.specs.State.{Entry, State, isBlank, rowFor, put, withRow, place, insertAt, removeAt, wordsOf, stateOf, areaOf}
-use Rattle.area.proofs.RowLaws.{Hit, hit-law, hit-row, miss-row, isBlank-law, place-most, put-over, put-new, put-out, put-not}
+use Rattle.area.specs.State.{Entry, isBlank, rowFor, withRow, place, insertAt, removeAt, stateOf, areaOf}
+use Rattle.area.proofs.RowLaws.{Hit, hit-law, hit-row, miss-row, place-most, put-over, put-new, put-out, put-not}
 use Rattle.area.proofs.Bytes.{good-state, good-area}
 use Rattle.rows.specs.declared.Row as stored-row
 use Rattle.rows.specs.declared.Settled as stored-settled
@@ -29,7 +26,7 @@ use Rattle.rows.proofs.Padded.{stored⇒tidy, stored⇒row, tidy-count}
 use Rattle.table.proofs.RowWords.{opens-few}
 use Rattle.table.specs.Table.{rowsIn, Sound, holding, entry, nth, foundFor}
 use Rattle.table.specs.declared.Found.the-variants.{At, Vacant}
-use Rattle.cache.proofs.Places.{found-at, found-vacant, bytes-are}
+use Rattle.cache.proofs.Places.{found-at, found-vacant}
 
 module _ (l : List ℕ) (s : Sound l) (p i : ℕ) where
   -- where p has a row, of number i
