@@ -69,6 +69,7 @@ module _ (s : State) (g : GoodState s) (p : ℕ) (v : T (valid p)) where
 pub readings : demands.Readings
 unfolding rowAfter bitsOf single joined
 readings = record {
+  of-a-row = rows.readings;
   no-row-empty-session = λ s g p v b. decide-none s g p v b 0 10 (empty-part (allBelow (s .roles))) (rows.readings .no-row-empty-session .1);
   no-row-role-0 = λ s g p v b. decide-none s g p v b 1 12 (partOf-allBelow (s .roles) 1 .1 (single-below (s .roles) 0 (g .some-roles))) (rows.readings .no-row-role-0 .1);
   allow-nobody = allow-none;

@@ -6,7 +6,7 @@
 --     Demand3, Reordered     areas reached from opening are equal exactly when they know the same; so are those of reordered streams
 --     Contradicted           over every history 6 exactly when no possible holder set agrees
 --     OneOutcome             any two outcomes that a call's contract allows are equal
---     Readings               the readings of document 01 marked P that need a whole area
+--     Readings               the readings of document 01 marked P, all of them
 use mathlib.Core.Path.{_≡_}
 use mathlib.Core.Bool.{Bool, true, not, _&&_}
 use mathlib.Core.List.{List, [], _∷_}
@@ -18,6 +18,7 @@ use Rattle.roles.specs.Sets.{allBelow, partOf}
 use Rattle.meaning.specs.declared.Event.{Event}
 use Rattle.meaning.specs.declared.Happening.{Happening}
 use Rattle.meaning.specs.Events.{known, agrees, HolderSet, Possible, Decides}
+use Rattle.meaning.specs.Readings as rows
 use Rattle.meaning.specs.Rows.{Row, contradicts, step}
 use Rattle.area.specs.Layout.{mostRoles, mostRows, areaBytes, goodBytes}
 use Rattle.area.specs.State.{State, GoodState, isBlank, rowFor, stateOf, areaOf}
@@ -117,6 +118,8 @@ OneOutcome = (o : Out) (r s : Answer) (l m : List ℕ) → Gives o r l → Gives
 -- ---- readings
 
 pub record Readings : Type 0 where
+  -- those of one row
+  pub of-a-row : rows.Readings
   -- decide on - and on 0 where p has no row
   pub no-row-empty-session : (s : State) → GoodState s → (p : ℕ) → T (valid p) → isBlank (rowFor p (s .rows)) ≡ true → decideOf (areaOf s) p 0 .answer ≡ 10
   pub no-row-role-0 : (s : State) → GoodState s → (p : ℕ) → T (valid p) → isBlank (rowFor p (s .rows)) ≡ true → decideOf (areaOf s) p 1 .answer ≡ 12

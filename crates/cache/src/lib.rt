@@ -3,6 +3,7 @@ use area::AREA_BYTES;
 use area::MOST_ROLES;
 use area::MOST_ROWS;
 use area::check::check;
+use meaning::Event;
 use meaning::Happening;
 use roles::RoleSet;
 use rows::Row;
@@ -202,10 +203,13 @@ fn enter_new(a: &mut [u8], i: usize, p: u32, e: Happening) -> Answer
     }
 }
 
-fn enter(a: &mut [u8], p: u32, e: Happening) -> Answer
+// The one way of every event.
+fn enter(a: &mut [u8], event: Event) -> Answer
     requires { ⌜ Sound (now a) ⌝ }
-    ensures { λ r. ⌜ Gives (eventOf (now (a .entry)) p e) r (now (a .exit)) ⌝ }
+    ensures { λ r. ⌜ Gives (eventOf (now (a .entry)) (event .permission) (event .happening)) r (now (a .exit)) ⌝ }
 {
+    let p = event.permission;
+    let e = event.happening;
     if !is_known(e, get_word(a, 0)) {
         return Answer::UnknownRole;
     }
@@ -230,9 +234,21 @@ pub fn reply(a: &mut [u8], p: u32, verdict: u64, s: u64) -> Answer
     }
     let session = RoleSet { bits: s };
     if verdict == 1 {
-        return enter(a, p, Happening::Allow(session));
+        return enter(
+            a,
+            Event {
+                permission: p,
+                happening: Happening::Allow(session),
+            },
+        );
     }
-    enter(a, p, Happening::Deny(session))
+    enter(
+        a,
+        Event {
+            permission: p,
+            happening: Happening::Deny(session),
+        },
+    )
 }
 
 // Kind 0 is withdrawn, 1 given.
@@ -249,9 +265,21 @@ pub fn update(a: &mut [u8], p: u32, kind: u64, role: u64) -> Answer
         return Answer::BadNumber;
     }
     if kind == 1 {
-        return enter(a, p, Happening::Given(role));
+        return enter(
+            a,
+            Event {
+                permission: p,
+                happening: Happening::Given(role),
+            },
+        );
     }
-    enter(a, p, Happening::Withdrawn(role))
+    enter(
+        a,
+        Event {
+            permission: p,
+            happening: Happening::Withdrawn(role),
+        },
+    )
 }
 
 // ---- opening and forgetting

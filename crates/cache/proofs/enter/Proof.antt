@@ -35,8 +35,8 @@ returns c =
     let g = k .before in
     let s = g .before .before .before in
     let l = s .args .a .now in
-    gives (eventOf l (s .args .p) (s .args .e)) UnknownRole l
-    (unknown l (stateOf l) (s .args .p) (s .args .e) (rowFor (s .args .p) (rowsIn l)) (known-at l (g .get-word .result) (s .args .e) _ _ (g .get-word .ensures) (k .is-known .ensures) (not-true _ (c .if1 .taken))))
+    gives (eventOf l (s .args .event .permission) (s .args .event .happening)) UnknownRole l
+    (unknown l (stateOf l) (s .args .event .permission) (s .args .event .happening) (rowFor (s .args .event .permission) (rowsIn l)) (known-at l (g .get-word .result) (s .args .event .happening) _ _ (g .get-word .ensures) (k .is-known .ensures) (not-true _ (c .if1 .taken))))
 
 enter-over-requires : tie.Need-enter-over-requires
 enter-over-requires c κs =
@@ -47,7 +47,7 @@ enter-over-requires c κs =
     let g = k .before in
     let s = g .before .before .before in
     let l = s .args .a .now in
-    (s .pre, sym (f .find .ensures) ∙ i .i .given .1, is-true _ (known-at l (g .get-word .result) (s .args .e) _ _ (g .get-word .ensures) (k .is-known .ensures) (not-false _ (t .if1 .left))))
+    (s .pre, sym (f .find .ensures) ∙ i .i .given .1, is-true _ (known-at l (g .get-word .result) (s .args .event .happening) _ _ (g .get-word .ensures) (k .is-known .ensures) (not-false _ (t .if1 .left))))
 
 enter-new-requires : tie.Need-enter-new-requires
 enter-new-requires c κs =
@@ -58,7 +58,7 @@ enter-new-requires c κs =
     let g = k .before in
     let s = g .before .before .before in
     let l = s .args .a .now in
-    (s .pre, sym (f .find .ensures) ∙ i .i2 .given .1, is-true _ (known-at l (g .get-word .result) (s .args .e) _ _ (g .get-word .ensures) (k .is-known .ensures) (not-false _ (t .if1 .left))))
+    (s .pre, sym (f .find .ensures) ∙ i .i2 .given .1, is-true _ (known-at l (g .get-word .result) (s .args .event .happening) _ _ (g .get-word .ensures) (k .is-known .ensures) (not-false _ (t .if1 .left))))
 
 returns-2 : tie.Need-returns-2
 returns-2 c = c .before .before .enter-over .ensures
