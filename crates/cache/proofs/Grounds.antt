@@ -1,10 +1,10 @@
 -- Demand 1: each answer exactly on its ground. Assumes nothing.
-use mathlib.Core.Path.{_≡_, refl, sym, ap, _∙_, subst, subst⁻¹}
-use mathlib.Core.Bool.{Bool, true, false, not, cond, _&&_, _||_}
+use mathlib.Core.Path.{_≡_, refl, sym, _∙_}
+use mathlib.Core.Bool.{Bool, true, false, not, cond, _&&_}
 use mathlib.Core.List.{List, [], _∷_}
-use mathlib.Core.Logic.{_↔_, _≢_, _⊎_, inl, inr, ⊎-elim}
+use mathlib.Core.Logic.{_≢_, _⊎_, inl, inr, ⊎-elim}
 use Prim.Native.Nat.{ℕ}
-use lib.Dec.{T, T-not, eqb, eqb-refl, leb}
+use lib.Dec.{T, eqb, leb}
 use lib.ListN.{length}
 use Rattle.roles.specs.Sets.{allBelow, partOf}
 use Rattle.roles.proofs.Member.{T-and}

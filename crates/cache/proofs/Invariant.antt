@@ -3,7 +3,7 @@ use mathlib.Core.Path.{_≡_, refl, sym, ap, _∙_, subst, subst⁻¹}
 use mathlib.Core.Bool.{Bool, true, false, not, cond, _&&_}
 use mathlib.Core.List.{List, [], _∷_, _++_}
 use mathlib.Core.Logic.{_≢_, ⊎-elim}
-use Prim.Native.Nat.{ℕ, _≤_}
+use Prim.Native.Nat.{ℕ}
 use native.Mathlib.Decide.{ℕ-discrete}
 use native.Mathlib.Omega.{arith}
 use borrow.Author.Tests.{eq-eqb, ne-eqb}
@@ -17,7 +17,7 @@ use Rattle.meaning.proofs.Verdicts.{unlike}
 use Rattle.area.specs.Layout.{mostRoles, areaBytes}
 use Rattle.area.specs.State.{State, GoodState, rowFor, put, withRow, areaOf}
 use Rattle.area.proofs.RowLaws.{rowFor-put-same, rowFor-put-other}
-use Rattle.cache.specs.Calls.{Out, stays, holds, valid, replied, updated, openOf, replyOf, updateOf, decideOf, forgetOf}
+use Rattle.cache.specs.Calls.{Out, stays, holds, replied, updated, openOf, replyOf, updateOf, decideOf, forgetOf}
 use Rattle.cache.specs.Histories.{Call, reply, update, ask, forget, outOf, lengthened, trailAfter, History, opened, next, afterAll, history}
 use Rattle.cache.proofs.Outcomes.{Outcome, refused, recorded, forgotten, drop-state, reply-on, update-on, decide-stays, forget-on}
 

@@ -1,7 +1,7 @@
 -- What each call does on an area that holds a good state. Assumes nothing.
-use mathlib.Core.Path.{_≡_, refl, sym, ap, _∙_, subst, subst⁻¹}
-use mathlib.Core.Bool.{Bool, true, false, not, cond, _&&_, _||_}
-use mathlib.Core.List.{List, []}
+use mathlib.Core.Path.{_≡_, refl, _∙_, subst, subst⁻¹}
+use mathlib.Core.Bool.{Bool, true, false, not, cond, _||_}
+use mathlib.Core.List.{List}
 use mathlib.Core.Logic.{_≢_, _⊎_, inl, inr, ⊎-elim}
 use Prim.Native.Nat.{ℕ, _≤_, _<_}
 use native.Mathlib.Omega.{arith}
@@ -11,14 +11,14 @@ use Rattle.roles.specs.Sets.{allBelow, partOf}
 use Rattle.roles.proofs.Member.{T?, T-and, T-or, T-ext}
 use Rattle.meaning.specs.declared.Happening.{Happening}
 use Rattle.meaning.specs.Events.{known}
-use Rattle.meaning.specs.Rows.{Row, blank, Good, mostOpens, fits, contradicts, step, settle, decide}
+use Rattle.meaning.specs.Rows.{Row, blank, Good, fits, contradicts, step, settle, decide}
 use Rattle.meaning.proofs.Kept.{step-good}
 use Rattle.meaning.proofs.Answers.{settle-law, fits-law}
 use Rattle.area.specs.Layout.{mostRows, lastPermission, goodBytes}
-use Rattle.area.specs.State.{State, isBlank, GoodRow, GoodRows, GoodState, rowFor, put, withRow, stateOf, areaOf}
-use Rattle.area.proofs.RowLaws.{isBlank-law, rowFor-good, put-good, put-most}
+use Rattle.area.specs.State.{State, isBlank, GoodState, rowFor, withRow, stateOf, areaOf}
+use Rattle.area.proofs.RowLaws.{rowFor-good, put-good, put-most}
 use Rattle.area.proofs.Bytes.{area-good, area-state}
-use Rattle.cache.specs.Calls.{Out, stays, holds, valid, isReply, fitsIn, eventOn, eventOf, replied, updated, onArea, replyOf, updateOf, decideOf, forgetOf}
+use Rattle.cache.specs.Calls.{Out, stays, holds, valid, isReply, fitsIn, eventOn, replied, updated, onArea, replyOf, updateOf, decideOf, forgetOf}
 
 -- ---- states with another row
 

@@ -19,8 +19,8 @@ use Rattle.meaning.specs.declared.Event.{Event}
 use Rattle.meaning.specs.declared.Happening.{Happening}
 use Rattle.meaning.specs.Events.{known, agrees, HolderSet, Possible, Decides}
 use Rattle.meaning.specs.Readings as rows
-use Rattle.meaning.specs.Rows.{Row, contradicts, step}
-use Rattle.area.specs.Layout.{mostRoles, mostRows, areaBytes, goodBytes}
+use Rattle.meaning.specs.Rows.{contradicts, step}
+use Rattle.area.specs.Layout.{mostRoles, areaBytes, goodBytes}
 use Rattle.area.specs.State.{State, GoodState, isBlank, rowFor, stateOf, areaOf}
 use Rattle.cache.specs.Calls.{Out, stays, valid, fitsIn, replied, updated, openOf, replyOf, updateOf, decideOf, forgetOf}
 use Rattle.cache.specs.declared.Answer.{Answer}

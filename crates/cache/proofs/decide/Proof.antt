@@ -4,7 +4,6 @@ use borrow.Author.Tests.{not-true, not-false}
 use mathlib.Core.Path.{_≡_, sym, _∙_}
 use mathlib.Core.Bool.{true}
 use native.Mathlib.Omega.{arith}
-use lib.Dec.{T}
 use Rattle.area.specs.Layout.{goodBytes}
 use Rattle.area.proofs.Bytes.{good-length}
 use Rattle.table.proofs.RowWords.{sound}

@@ -1,14 +1,14 @@
 -- `cache::enter_new` meets its contract. Assumes nothing.
 use borrow.Author.Needs.{needs}
-use mathlib.Core.Path.{_≡_, refl, sym, ap, _∙_, subst⁻¹}
-use mathlib.Core.Bool.{Bool, true, not}
+use mathlib.Core.Path.{_≡_, refl, ap, _∙_, subst⁻¹}
+use mathlib.Core.Bool.{Bool, not}
 use mathlib.Core.List.{List}
 use Prim.Native.Nat.{ℕ}
 use lib.Dec.{T}
 use Rattle.words.proofs.Laws.{Bytes}
 use Rattle.meaning.specs.declared.Happening.{Happening}
 use Rattle.meaning.specs.Events.{known}
-use Rattle.meaning.specs.Rows.{Row, blank, fits, contradicts, step, settle}
+use Rattle.meaning.specs.Rows.{Row, blank, fits, step, settle}
 use Rattle.area.specs.State.{isBlank, stateOf}
 use Rattle.rows.specs.Stored.{rowOf, storedRow}
 use Rattle.rows.specs.declared.Row as value

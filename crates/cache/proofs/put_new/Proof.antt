@@ -19,7 +19,7 @@ use Rattle.table.specs.Table.{rowsIn, Sound, foundFor}
 use Rattle.table.specs.declared.Found.the-variants.{Vacant}
 use Rattle.cache.specs.declared.Answer.{Answer}
 use Rattle.cache.specs.declared.Answer.the-variants.{Done}
-use Rattle.cache.specs.Calls.{Out, stays, holds, isReply, eventOn, eventOf}
+use Rattle.cache.specs.Calls.{Out, stays, isReply, eventOn, eventOf}
 use Rattle.cache.specs.Answers.{numberOf, Gives, Fresh}
 use Rattle.cache.proofs.Outcomes.{T-true, T-false}
 use Rattle.cache.proofs.Places.{bytes-are}
