@@ -1,0 +1,111 @@
+-- The line program in the middle of its input, and one turn of it.
+--     Place               what it has come to: the line so far and its number, the next row to be shown, the area, the bytes that it
+--                         has not read yet
+--     placeOf             the place that the code has come to
+--     showing             there may be rows to be shown
+--     firstShown l q      the row to begin with after the request q
+--     rowShown, lineRead  the next row shown; a line read and answered, or kept where it does not end yet
+--     turned, turnText    one turn: where it comes to, and what it writes
+--     mostText            no turn writes more
+--     goesOn room m       a turn is taken while there is something to do, and room for what it writes
+--     Advances room m k t turns are taken from m on as long as it goes on: they come to k and write t
+--     Advanced            what `advance` did
+use mathlib.Core.Path.{_≡_}
+use mathlib.Core.Bool.{Bool, true, false, cond, _&&_, _||_}
+use mathlib.Core.List.{List, [], _∷_, _++_}
+use Prim.Native.Nat.{ℕ, _+_, _-_, _≤_}
+use lib.Dec.{ltb, leb}
+use lib.ListN.{length, take, drop}
+use Rattle.area.specs.Layout.{mostRows}
+use Rattle.walker.specs.Walk.{walked, firstRow}
+use Rattle.table.specs.Table.{nth}
+use Rattle.text.specs.Write.{Wrote}
+use Rattle.requests.specs.declared.Request.{Request}
+use Rattle.requests.specs.declared.Request.the-variants.{Open, Told, Decide, Forget, Show, Unreadable}
+use Rattle.lines.specs.Split.{Held, none, heldAll, said, beforeLf, heldBy}
+use Rattle.lines.specs.Written.{answerOf, answerText, rowText, after}
+use Rattle.lines.specs.declared.Run.{Run}
+use Rattle.lines.specs.declared.Progress.{Progress}
+
+pub record Place : Type 0 where
+  pub held : Held
+  pub number : ℕ
+  pub row : ℕ
+  pub area : List ℕ
+  pub input : List ℕ
+
+abbrev pub placeOf : Run → List ℕ → List ℕ → Place
+placeOf r l bs = record { held = heldBy (r .line); number = r .number; row = r .row; area = l; input = bs }
+
+unfoldable pub firstShown : List ℕ → Request → ℕ
+firstShown l (Open n) = mostRows
+firstShown l (Told e) = mostRows
+firstShown l (Decide p s) = mostRows
+firstShown l (Forget p) = mostRows
+firstShown l Show = firstRow l
+firstShown l Unreadable = mostRows
+
+-- ---- a row shown
+
+abbrev pub showing : Place → Bool
+showing m = ltb (m .row) mostRows
+
+-- the row of that number is there
+abbrev pub rowThere : Place → Bool
+rowThere m = ltb (m .row) (length (walked (m .area)))
+
+abbrev pub atRow : Place → ℕ → Place
+atRow m i = record { held = m .held; number = m .number; row = i; area = m .area; input = m .input }
+
+unfoldable pub rowShown : Place → Place
+rowShown m = atRow m (cond (rowThere m) (m .row + 1) mostRows)
+
+unfoldable pub shownText : Place → List ℕ
+shownText m = cond (rowThere m) (rowText (nth (m .row) (walked (m .area)))) []
+
+-- ---- a line read
+
+-- the line ends in the input
+abbrev pub lineEnds : Place → Bool
+lineEnds m = ltb (beforeLf (m .input)) (length (m .input))
+
+-- the request that it says, where it does
+abbrev pub asked : Place → Request
+asked m = said (heldAll (m .held) (take (beforeLf (m .input)) (m .input)))
+
+abbrev pub answered : Place → Request → Place
+answered m q = record { held = none; number = after (m .number); row = firstShown (m .area) q; area = answerOf (m .area) q .area; input = drop (beforeLf (m .input) + 1) (m .input) }
+
+abbrev pub kept : Place → Place
+kept m = record { held = heldAll (m .held) (m .input); number = m .number; row = m .row; area = m .area; input = [] }
+
+unfoldable pub lineRead : Place → Place
+lineRead m = cond (lineEnds m) (answered m (asked m)) (kept m)
+
+unfoldable pub lineText : Place → List ℕ
+lineText m = cond (lineEnds m) (answerText (m .number) (answerOf (m .area) (asked m) .answer)) []
+
+-- ---- turns
+
+abbrev pub mostText : ℕ
+mostText = 4096
+
+unfoldable pub turned : Place → Place
+turned m = cond (showing m) (rowShown m) (lineRead m)
+
+unfoldable pub turnText : Place → List ℕ
+turnText m = cond (showing m) (shownText m) (lineText m)
+
+unfoldable pub goesOn : ℕ → Place → Bool
+goesOn room m = leb mostText room && (showing m || ltb 0 (length (m .input)))
+
+pub data Advances : ℕ → Place → Place → List ℕ → Type 0 where
+  stops : {room : ℕ} {m : Place} → goesOn room m ≡ false → Advances room m m []
+  turns : {room : ℕ} {m k : Place} {t : List ℕ} → goesOn room m ≡ true → Advances (room - length (turnText m)) (turned m) k t → Advances room m k (turnText m ++ t)
+
+-- from the run r on the area l with the input bs, into the buffer d; p, l′ and e are what it came to, the area and the buffer afterwards
+pub record Advanced (r : Run) (l bs d : List ℕ) (p : Progress) (l′ e : List ℕ) : Type 0 where
+  pub text : List ℕ
+  pub read : p .read ≤ length bs
+  pub wrote : Wrote d 0 text e (p .written)
+  pub goes : Advances (length d) (placeOf r l bs) (placeOf (p .run) l′ (drop (p .read) bs)) text
