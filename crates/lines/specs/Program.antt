@@ -12,7 +12,8 @@ use Prim.Native.Nat.{ℕ}
 use lib.Dec.{eqb}
 use lib.ListN.{length, replicate}
 use Rattle.area.specs.Layout.{mostRows, areaBytes}
-use Rattle.lines.specs.Split.{lf, none, isNone}
+use Rattle.text.specs.Ascii.{lf}
+use Rattle.lines.specs.Split.{none, isNone}
 use Rattle.lines.specs.Written.{programWrites}
 use Rattle.lines.specs.Run.{Place, showing, Advances}
 

@@ -13,7 +13,7 @@
 use mathlib.Core.Path.{_≡_}
 use mathlib.Core.Bool.{Bool, true, false, cond, _&&_, _||_}
 use mathlib.Core.List.{List, [], _∷_, _++_}
-use Prim.Native.Nat.{ℕ, _+_, _-_, _≤_}
+use Prim.Native.Nat.{ℕ, suc, _+_, _-_, _≤_}
 use lib.Dec.{ltb, leb}
 use lib.ListN.{length, take, drop}
 use Rattle.area.specs.Layout.{mostRows}
@@ -74,7 +74,7 @@ abbrev pub asked : Place → Request
 asked m = said (heldAll (m .held) (take (beforeLf (m .input)) (m .input)))
 
 abbrev pub answered : Place → Request → Place
-answered m q = record { held = none; number = after (m .number); row = firstShown (m .area) q; area = answerOf (m .area) q .area; input = drop (beforeLf (m .input) + 1) (m .input) }
+answered m q = record { held = none; number = after (m .number); row = firstShown (m .area) q; area = answerOf (m .area) q .area; input = drop (suc (beforeLf (m .input))) (m .input) }
 
 abbrev pub kept : Place → Place
 kept m = record { held = heldAll (m .held) (m .input); number = m .number; row = m .row; area = m .area; input = [] }

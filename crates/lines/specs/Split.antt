@@ -1,6 +1,6 @@
 -- Input bytes as lines: a line ends with LF and has at most 200 bytes before it, and a last line without LF counts if it
 -- is not empty.
---     lf, mostBytes      the byte that ends a line; how many may stand before it
+--     mostBytes          how many bytes a line may have before its LF
 --     Held               a line, as it is kept: its bytes, or that there are too many
 --     none, isNone       no byte yet
 --     heldThen, heldAll  one byte more; bytes more
@@ -14,13 +14,11 @@ use mathlib.Core.List.{List, [], _∷_, _++_}
 use Prim.Native.Nat.{ℕ, suc}
 use lib.Dec.{eqb, ltb, leb}
 use lib.ListN.{length, take}
+use Rattle.text.specs.Ascii.{lf}
 use Rattle.requests.specs.declared.Request.{Request}
 use Rattle.requests.specs.declared.Request.the-variants.{Unreadable}
 use Rattle.requests.specs.Request.{requestOf}
 use Rattle.lines.specs.declared.split.Splitter.{Splitter}
-
-abbrev pub lf : ℕ
-lf = 10
 
 abbrev pub mostBytes : ℕ
 mostBytes = 200

@@ -17,11 +17,12 @@ use Rattle.area.specs.Layout.{areaBytes}
 use Rattle.area.specs.State.{Entry}
 use Rattle.walker.specs.Walk.{walked, startAnswer}
 use Rattle.cache.specs.Calls.{Out, stays, openOf, replyOf, updateOf, decideOf, forgetOf}
+use Rattle.text.specs.Ascii.{space, lf}
 use Rattle.text.specs.Number.{numberText}
 use Rattle.text.specs.Set.{setText}
 use Rattle.requests.specs.declared.Request.{Request}
 use Rattle.requests.specs.declared.Request.the-variants.{Open, Told, Decide, Forget, Show, Unreadable}
-use Rattle.lines.specs.Split.{lf, Held, linesOf, said}
+use Rattle.lines.specs.Split.{Held, linesOf, said}
 
 -- ---- the answer to a request
 
@@ -48,9 +49,6 @@ shown l Show = walked l
 shown l Unreadable = []
 
 -- ---- texts
-
-abbrev pub space : ℕ
-space = 32
 
 abbrev pub equals : ℕ
 equals = 61

@@ -1,0 +1,2 @@
+-- The laws behind the code of `lines`, and the theorem on what the program writes.
+pub mod SplitLaws
