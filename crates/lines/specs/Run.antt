@@ -3,7 +3,6 @@
 --                         has not read yet
 --     placeOf             the place that the code has come to
 --     showing             there may be rows to be shown
---     firstShown l q      the row to begin with after the request q
 --     rowShown, lineRead  the next row shown; a line read and answered, or kept where it does not end yet
 --     turned, turnText    one turn: where it comes to, and what it writes
 --     mostText            no turn writes more
@@ -17,13 +16,13 @@ use Prim.Native.Nat.{ℕ, suc, _+_, _-_, _≤_}
 use lib.Dec.{ltb, leb}
 use lib.ListN.{length, take, drop}
 use Rattle.area.specs.Layout.{mostRows}
-use Rattle.walker.specs.Walk.{walked, firstRow}
+use Rattle.walker.specs.Walk.{walked}
 use Rattle.table.specs.Table.{nth}
 use Rattle.text.specs.Write.{Wrote}
 use Rattle.requests.specs.declared.Request.{Request}
-use Rattle.requests.specs.declared.Request.the-variants.{Open, Told, Decide, Forget, Show, Unreadable}
 use Rattle.lines.specs.Split.{Held, none, heldAll, said, beforeLf, heldBy}
 use Rattle.lines.specs.Written.{answerOf, answerText, rowText, after}
+use Rattle.lines.specs.Answers.{firstShown}
 use Rattle.lines.specs.declared.Run.{Run}
 use Rattle.lines.specs.declared.Progress.{Progress}
 
@@ -36,14 +35,6 @@ pub record Place : Type 0 where
 
 abbrev pub placeOf : Run → List ℕ → List ℕ → Place
 placeOf r l bs = record { held = heldBy (r .line); number = r .number; row = r .row; area = l; input = bs }
-
-unfoldable pub firstShown : List ℕ → Request → ℕ
-firstShown l (Open n) = mostRows
-firstShown l (Told e) = mostRows
-firstShown l (Decide p s) = mostRows
-firstShown l (Forget p) = mostRows
-firstShown l Show = firstRow l
-firstShown l Unreadable = mostRows
 
 -- ---- a row shown
 

@@ -1,4 +1,5 @@
 // The line program, from a piece of its input to the bytes written for it.
+pub mod answer;
 pub mod split;
 
 use split::Splitter;
