@@ -130,6 +130,33 @@ joined-alone : (s r : ℕ) → joined s (single r) ≡ joined s (setOf (r ∷ []
 unfolding joined setOf
 joined-alone s r = sym (ap (joined s) (or-zero-r (single r)))
 
+-- ---- reading, role by role
+
+-- the first byte of a set
+pub set-minus : (t : List ℕ) → nextIs minus t ≡ true → readSet t ≡ found 0 (drop 1 t)
+unfolding readSet
+set-minus t e = rw e refl
+
+pub set-roles : (t : List ℕ) → nextIs minus t ≡ false → readSet t ≡ readRoles mostRoles 0 0 t
+unfolding readSet
+set-roles t e = rw e refl
+
+-- a role that was read, and what comes after it
+pub roles-step : (k s low r : ℕ) (t u : List ℕ) → readNumber lastRole t ≡ found r u → low ≤ r
+    → readRoles (suc k) s low t ≡ cond (nextIs comma u) (readRoles k (joined s (single r)) (suc r) (drop 1 u)) (found (joined s (single r)) u)
+unfolding readRoles readRole
+roles-step k s low r t u e h = rw (e, le-ltb r low h) refl
+
+pub roles-bad : (k s low : ℕ) (t : List ℕ) → readNumber lastRole t ≡ bad → readRoles k s low t ≡ bad
+unfolding readRoles readRole
+roles-bad zero s low t e = refl
+roles-bad (suc k) s low t e = rw e refl
+
+pub roles-low : (k s low r : ℕ) (t u : List ℕ) → readNumber lastRole t ≡ found r u → r < low → readRoles k s low t ≡ bad
+unfolding readRoles readRole
+roles-low zero s low r t u e h = refl
+roles-low (suc k) s low r t u e h = rw (e, lt-ltb r low h) refl
+
 -- ---- what was printed reads back
 
 -- neither a digit nor a comma comes next
@@ -147,22 +174,6 @@ first-role : (r : ℕ) (l t : List ℕ) → r ≤ lastRole → digitNext t ≡ f
 unfolding rolesText roleText
 first-role r l t h e =
     ap (readNumber lastRole) (append-assoc (numberText r) (rolesText true l) t) ∙ number-back lastRole r (rolesText true l ++ t) h (later-digit l t e)
-
--- a role that was read, and what comes after it
-pub roles-step : (k s low r : ℕ) (t u : List ℕ) → readNumber lastRole t ≡ found r u → low ≤ r
-    → readRoles (suc k) s low t ≡ cond (nextIs comma u) (readRoles k (joined s (single r)) (suc r) (drop 1 u)) (found (joined s (single r)) u)
-unfolding readRoles readRole
-roles-step k s low r t u e h = rw (e, le-ltb r low h) refl
-
-pub roles-bad : (k s low : ℕ) (t : List ℕ) → readNumber lastRole t ≡ bad → readRoles k s low t ≡ bad
-unfolding readRoles readRole
-roles-bad zero s low t e = refl
-roles-bad (suc k) s low t e = rw e refl
-
-pub roles-low : (k s low r : ℕ) (t u : List ℕ) → readNumber lastRole t ≡ found r u → r < low → readRoles k s low t ≡ bad
-unfolding readRoles readRole
-roles-low zero s low r t u e h = refl
-roles-low (suc k) s low r t u e h = rw (e, lt-ltb r low h) refl
 
 roles-back : (r : ℕ) (l : List ℕ) (k s low : ℕ) (t : List ℕ) → From low (r ∷ l) → mostRoles ≤ k + low → Ends t
     → readRoles k s low (rolesText false (r ∷ l) ++ t) ≡ found (joined s (setOf (r ∷ l))) t
@@ -195,7 +206,7 @@ set-back s t h e = go (eqb s 0) refl (rolesOf s) (roles-from mostRoles 0 s (omeg
     go : (b : Bool) → eqb s 0 ≡ b → (l : List ℕ) → From 0 l → setOf l ≡ s → readSet (cond b (minus ∷ []) (rolesText false l) ++ t) ≡ found s t
     go true p l f i = rw (eqb-true s 0 p) refl
     go false p [] f i = absurd (eqb-false s 0 p (sym i))
-    go false p (r ∷ l) f i = rw (number-no-minus (rolesText false (r ∷ l) ++ t) r (rolesText true l ++ t) (first-role r l t (f .1) (e .digit))) (roles-back r l mostRoles 0 0 t f (omega arith) e ∙ ap (λ (x : ℕ). found x t) i)
+    go false p (r ∷ l) f i = set-roles (rolesText false (r ∷ l) ++ t) (number-no-minus (rolesText false (r ∷ l) ++ t) r (rolesText true l ++ t) (first-role r l t (f .1) (e .digit))) ∙ (roles-back r l mostRoles 0 0 t f (omega arith) e ∙ ap (λ (x : ℕ). found x t) i)
 
 -- ---- nothing else reads
 

@@ -112,32 +112,45 @@ set-bad line bad q = refl
 -- ---- along the roles of a set
 
 -- the answer for the roles not yet passed is the answer for all
-abbrev pub RolesLeft : List ℕ → ℕ → ℕ → ℕ → ℕ → Type 0
-RolesLeft line at s low i = (k : ℕ) × (mostRoles ≤ k + low) × (readRoles k s low (drop i line) ≡ readRoles mostRoles 0 0 (drop at line))
+pub record RolesLeft (line : List ℕ) (at s low i : ℕ) : Type 0 where
+  pub turns : ℕ
+  pub enough : mostRoles ≤ turns + low
+  pub same : readRoles turns s low (drop i line) ≡ readRoles mostRoles 0 0 (drop at line)
 
 pub roles-start : (line : List ℕ) (at : ℕ) → RolesLeft line at 0 0 at
-roles-start line at = (mostRoles, omega arith, refl)
+roles-start line at = record { turns = mostRoles; enough = omega arith; same = refl }
 
-module _ (line : List ℕ) (at s low i : ℕ) (l : RolesLeft line at s low i) where
+module _ {line : List ℕ} {at s low i : ℕ} (l : RolesLeft line at s low i) where
   pub roles-none : readNumber lastRole (drop i line) ≡ bad → bad ≡ readRoles mostRoles 0 0 (drop at line)
-  roles-none e = sym (roles-bad (l .0) s low (drop i line) e) ∙ l .2
+  roles-none e = sym (roles-bad (l .turns) s low (drop i line) e) ∙ l .same
 
-  module _ (r n : ℕ) (t : NumberThere lastRole line i r n) where
+  module _ {r n : ℕ} (t : NumberThere lastRole line i r n) where
     pub roles-fall : r < low → bad ≡ readRoles mostRoles 0 0 (drop at line)
-    roles-fall h = sym (roles-low (l .0) s low r (drop i line) (drop n line) (t .reads) h) ∙ l .2
+    roles-fall h = sym (roles-low (l .turns) s low r (drop i line) (drop n line) (t .reads) h) ∙ l .same
 
-    role-passed : low ≤ r → (k : ℕ) × (mostRoles ≤ k + (r + 1))
-        × (cond (nextIs comma (drop n line)) (readRoles k (joined s (single r)) (suc r) (drop 1 (drop n line))) (found (joined s (single r)) (drop n line)) ≡ readRoles mostRoles 0 0 (drop at line))
-    role-passed h = go (l .0) (l .1) (l .2)
+    -- what is left behind a role, with one turn less
+    Passed : ℕ → Type 0
+    Passed k =
+        (mostRoles ≤ k + (r + 1))
+        × (cond (nextIs comma (drop n line)) (readRoles k (joined s (single r)) (suc r) (drop 1 (drop n line))) (found (joined s (single r)) (drop n line))
+        ≡ readRoles mostRoles 0 0 (drop at line))
+
+    role-passed : low ≤ r → (k : ℕ) × Passed k
+    unfolding Passed
+    role-passed h = go (l .turns) (l .enough) (l .same)
       where
-        go : (k : ℕ) → mostRoles ≤ k + low → readRoles k s low (drop i line) ≡ readRoles mostRoles 0 0 (drop at line)
-            → (k : ℕ) × (mostRoles ≤ k + (r + 1))
-            × (cond (nextIs comma (drop n line)) (readRoles k (joined s (single r)) (suc r) (drop 1 (drop n line))) (found (joined s (single r)) (drop n line)) ≡ readRoles mostRoles 0 0 (drop at line))
-        go zero k q = let b = t .small in absurd (omega arith)
-        go (suc k) m q = (k, omega arith, sym (roles-step k s low r (drop i line) (drop n line) (t .reads) h) ∙ q)
+        go : (k : ℕ) → mostRoles ≤ k + low → readRoles k s low (drop i line) ≡ readRoles mostRoles 0 0 (drop at line) → (k : ℕ) × Passed k
+        go zero m q = let b = t .small in absurd (omega arith)
+        go (suc k) m q = (k, (omega arith, sym (roles-step k s low r (drop i line) (drop n line) (t .reads) h) ∙ q))
 
     pub roles-end : low ≤ r → nextIs comma (drop n line) ≡ false → found (joined s (single r)) (drop n line) ≡ readRoles mostRoles 0 0 (drop at line)
-    roles-end h e = rw e at (role-passed h .2)
+    unfolding Passed
+    roles-end h e = rw e at (role-passed h .1 .1)
 
     pub roles-comma : low ≤ r → nextIs comma (drop n line) ≡ true → RolesLeft line at (joined s (single r)) (r + 1) (n + 1)
-    roles-comma h e = let p = role-passed h in (p .0, p .1, rw (add-one r, ← drop-drop 1 n line) (rw e at (p .2)))
+    unfolding Passed
+    roles-comma h e = let p = role-passed h in record {
+      turns = p .0;
+      enough = p .1 .0;
+      same = rw (add-one r, ← drop-drop 1 n line) (rw e at (p .1 .1));
+    }
