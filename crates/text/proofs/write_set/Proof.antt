@@ -1,90 +1,60 @@
+-- `text::write_set` meets its contract: the roles not yet passed finish the text. Assumes nothing.
 use borrow.Author.Needs.{needs}
+use mathlib.Core.Path.{_≡_, sym, ap, _∙_, subst}
+use mathlib.Core.Bool.{true}
+use Prim.Native.Nat.{_+_, _-_, _≤_}
+use native.Mathlib.Omega.{arith}
+use lib.ListN.{length, length-set}
+use Rattle.text.specs.Ascii.{minus}
+use Rattle.text.specs.Set.{mostRoles, roleText, setText}
+use Rattle.text.proofs.WriteLaws.{wrote-one, Left, left-start, left-next, left-room, left-end, empty-text, restText, rest-start, rest-has, rest-lacks, rest-end}
 use Rattle.text.proofs.write_set.Statement.{statement}
 use Rattle.text.proofs.write_set.Tie as tie
-use Rattle.text.proofs.write_set.Reads as reads
-use Rattle.text.proofs.write_set.Lts as lts
-use Rattle.roles.proofs.RoleSet.has.Reads as has-reads
-use Rattle.text.proofs.write_role.Reads as write-role-reads
 
 abbrev Inv-loop : tie.InvT-loop
-Inv-loop out₀ at s place₀ later₀ r₀ out place later r = ?
+Inv-loop out₀ at s place₀ later₀ r₀ out place later r =
+    (r ≤ mostRoles) × (at + length (setText (s .bits)) ≤ length out₀) × Left out₀ at (setText (s .bits)) out place (restText later r (s .bits))
 
 abbrev μ-loop : tie.MeasureT-loop
-μ-loop out₀ at s place₀ later₀ r₀ out place later r = ?
+μ-loop out₀ at s place₀ later₀ r₀ out place later r = mostRoles - r
 
--- src/lib.rt:168:9
 slice-write-out : tie.Need-slice-write-out Inv-loop μ-loop
-slice-write-out c = ?
+slice-write-out c = let a = c .before .before .before .args in omega (arith, ap length (empty-text (a .s .bits) (c .if1 .taken)))
 
--- src/lib.rt:169:16
-add-result : tie.Need-add-result Inv-loop μ-loop
-add-result c = ?
-
--- src/lib.rt:169:9
-same-length : tie.Need-same-length Inv-loop μ-loop
-same-length c = ?
-
--- src/lib.rt:169:9
 returns : tie.Need-returns Inv-loop μ-loop
-returns c = ?
+returns c = let a = c .before .before .before .args in rw (empty-text (a .s .bits) (c .if1 .taken)) (wrote-one (a .out .now) (a .at) minus)
 
--- src/lib.rt:174:5
 loop-holds : tie.Need-loop-holds Inv-loop μ-loop
-loop-holds c = ?
+loop-holds c =
+    let a = c .before .before .before .args in
+    (search needs, c .before .before .before .pre, subst (Left (a .out .now) (a .at) (setText (a .s .bits)) (a .out .now) (a .at)) (rest-start (a .s .bits) (c .if1 .left)) (left-start (a .out .now) (a .at) (setText (a .s .bits))))
 
--- src/lib.rt:176:9
-add-r : tie.Need-add-r Inv-loop μ-loop
-add-r c = ?
-
--- src/lib.rt:177:12
-has-requires : tie.Need-has-requires Inv-loop μ-loop
-has-requires c κs = ?
-
--- src/lib.rt:178:13
 write-role-requires : tie.Need-write-role-requires Inv-loop μ-loop
-write-role-requires c κs = ?
+write-role-requires c κs =
+    let l = c .before .before .before .before .loop in
+    let s = c .before .before .before .before .before .before .before .before .args .s .bits in
+    left-room (roleText (l .later) (l .r)) (restText true (l .r + 1) s) (l .inv .2) (rest-has (l .later) (l .r) s (omega arith) (sym (c .before .before .has .ensures) ∙ c .before .if2 .taken)) (l .inv .1)
 
--- src/lib.rt:174:5
-loop-less : tie.Need-loop-less Inv-loop μ-loop
-loop-less c = ?
-
--- src/lib.rt:174:5
 loop-again : tie.Need-loop-again Inv-loop μ-loop
-loop-again c = ?
+loop-again c =
+    let l = c .before .before .before .before .before .before .before .loop in
+    let s = c .before .before .before .before .before .before .before .before .before .before .before .args .s .bits in
+    let e = rest-has (l .later) (l .r) s (omega arith) (sym (c .before .before .before .before .before .has .ensures) ∙ c .before .before .before .before .if2 .taken) in
+    (omega arith, l .inv .1, left-next (l .inv .2) e (c .before .before .write-role .ensures))
 
--- src/lib.rt:174:5
-loop-less-2 : tie.Need-loop-less-2 Inv-loop μ-loop
-loop-less-2 c = ?
-
--- src/lib.rt:174:5
 loop-again-2 : tie.Need-loop-again-2 Inv-loop μ-loop
-loop-again-2 c = ?
+loop-again-2 c =
+    let l = c .before .before .before .loop in
+    let s = c .before .before .before .before .before .before .before .args .s .bits in
+    (omega arith, l .inv .1, rw (rest-lacks (l .later) (l .r) s (omega arith) (sym (c .before .has .ensures) ∙ c .if2 .left)) at (l .inv .2))
 
--- src/lib.rt:163:1
-same-length-2 : tie.Need-same-length-2 Inv-loop μ-loop
-same-length-2 c = ?
-
--- src/lib.rt:163:1
 returns-2 : tie.Need-returns-2 Inv-loop μ-loop
-returns-2 c = ?
+returns-2 c =
+    let l = c .before .loop in
+    left-end (rw (rest-end (l .later) (l .r) (c .before .before .before .before .before .args .s .bits) (omega arith)) at (l .inv .2))
 
 pub write-set-spec : {M : Type 1} → statement M
 write-set-spec =
     tie.close
-    (tie.spec
-    Inv-loop
-    μ-loop
-    slice-write-out
-    add-result
-    same-length
-    returns
-    loop-holds
-    add-r
-    has-requires
-    write-role-requires
-    loop-less
-    loop-again
-    loop-less-2
-    loop-again-2
-    same-length-2
-    returns-2)
+    (tie.spec Inv-loop μ-loop slice-write-out (λ c. search needs) (λ c. search needs) returns loop-holds (λ c. search needs) (λ c κs. search needs)
+    write-role-requires (λ c. search needs) loop-again (λ c. search needs) loop-again-2 (λ c. c .before .loop .inv .2 .same) returns-2)
