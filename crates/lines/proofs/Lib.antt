@@ -1,5 +1,6 @@
 -- The laws behind the code of `lines`, and the theorem on what the program writes.
 pub mod SplitLaws
 mod AnswerLaws
+mod Texts
 pub mod Turns
 pub mod Program

@@ -1,6 +1,7 @@
 // The line program, from a piece of its input to the bytes written for it.
 pub mod answer;
 pub mod split;
+pub mod write;
 
 use split::Splitter;
 
