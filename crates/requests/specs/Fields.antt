@@ -25,11 +25,11 @@ lastPermission = 4294967295
 unfoldable pub fieldOf : List ℕ → List ℕ
 fieldOf t = cond (nextIs space t) (drop 1 t) []
 
-unfoldable pub got : {A : Type 0} → A → (ℕ → List ℕ → A) → Got → A
+abbrev pub got : {A : Type 0} → A → (ℕ → List ℕ → A) → Got → A
 got other k (found v t) = k v t
 got other k bad = other
 
-unfoldable pub ended : {A : Type 0} → A → A → List ℕ → A
+abbrev pub ended : {A : Type 0} → A → A → List ℕ → A
 ended other a [] = a
 ended other a (c ∷ t) = other
 
