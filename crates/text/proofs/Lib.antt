@@ -1,3 +1,7 @@
--- The laws of texts. `Theorems` has the end ones; `NumberLaws`, `SetLaws` and `WriteLaws` what they stand on, `Walks` the readers along a line.
+-- The laws of texts: the end ones in `Theorems`, what they stand on before them, and the readers along a line in `Walks`.
 pub mod NumberLaws
 pub mod SetLaws
+pub mod WriteLaws
+pub mod Shape
+pub mod Theorems
+pub mod Walks

@@ -1,16 +1,16 @@
 -- Numbers as text: digit by digit; what was printed reads back, and nothing else reads. Assumes nothing.
-use mathlib.Core.Path.{_≡_, refl, ap, _∙_, subst}
+use mathlib.Core.Path.{_≡_, refl, sym, ap, _∙_, subst}
 use mathlib.Core.Bool.{Bool, true, false, cond, _&&_, false≢true}
 use mathlib.Core.List.{List, [], _∷_, _++_, append-assoc}
 use mathlib.Core.Logic.{by-cases}
 use Prim.Native.Nat.{ℕ, zero, suc, _+_, _*_, _/_, _%_, _≤_, _<_}
 use native.Mathlib.Decide.{decLt}
 use native.Mathlib.Omega.{arith}
-use borrow.Author.Tests.{lt-ltb, le-ltb, le-leb, ne-eqb, ltb-false, leb-true, eqb-true, eqb-false}
+use borrow.Author.Tests.{lt-ltb, le-ltb, le-leb, lt-leb, ne-eqb, ltb-false, leb-true, eqb-true, eqb-false}
 use lib.Dec.{ltb, leb, eqb}
 use lib.ListN.{drop}
 use Rattle.text.specs.Ascii.{digitZero, digitNine}
-use Rattle.text.specs.Number.{digits, numberText, Got, found, bad, isDigit, digitNext, nextIs, grown, readMore, readNumber}
+use Rattle.text.specs.Number.{digits, numberText, found, bad, isDigit, digitNext, nextIs, grown, readMore, readNumber}
 
 -- ---- the text
 
@@ -67,26 +67,52 @@ next-is b (c ∷ s) e = ap (λ (x : ℕ). x ∷ s) (eqb-true c b e)
 pub bad≢found : {v : ℕ} {rest : List ℕ} → bad ≡ found v rest → ⊥
 bad≢found e = let z : _≡_ {A = ℕ} 0 1 = cc in absurd (omega arith)
 
--- ---- what was printed reads back
+-- ---- reading, byte by byte
 
-more-digit : (limit v d : ℕ) (s : List ℕ) → d < 10 → v * 10 + d ≤ limit → readMore limit v ((digitZero + d) ∷ s) ≡ readMore limit (v * 10 + d) s
+-- the first byte of a number
+pub number-zero : (limit : ℕ) (s : List ℕ) → nextIs digitZero s ≡ true → readNumber limit s ≡ cond (digitNext (drop 1 s)) bad (found 0 (drop 1 s))
+unfolding readNumber
+number-zero limit s e = rw e refl
+
+pub number-first : (limit : ℕ) (s : List ℕ) → nextIs digitZero s ≡ false → digitNext s ≡ true → readNumber limit s ≡ readMore limit 0 s
+unfolding readNumber
+number-first limit s z d = rw (z, d) refl
+
+pub number-none : (limit : ℕ) (s : List ℕ) → digitNext s ≡ false → readNumber limit s ≡ bad
+unfolding readNumber digitNext nextIs
+number-none limit [] d = refl
+number-none limit (c ∷ s) d = rw (ne-eqb c digitZero (λ e. false≢true (sym d ∙ digit-yes c (omega arith) (omega arith))), d) refl
+
+-- a digit more, and one too many
+pub more-on : (limit v c : ℕ) (s : List ℕ) → isDigit c ≡ true → grown v c ≤ limit → readMore limit v (c ∷ s) ≡ readMore limit (grown v c) s
 unfolding readMore
-more-digit limit v d s h k =
-    let e : grown v (digitZero + d) ≡ v * 10 + d = omega arith in
-    rw (digit-yes (digitZero + d) (omega arith) (omega arith), e, le-leb (v * 10 + d) limit k) refl
+more-on limit v c s d k = rw (d, le-leb (grown v c) limit k) refl
+
+pub more-over : (limit v c : ℕ) (s : List ℕ) → isDigit c ≡ true → limit < grown v c → readMore limit v (c ∷ s) ≡ bad
+unfolding readMore
+more-over limit v c s d k = rw (d, lt-leb (grown v c) limit k) refl
 
 -- a number ends where no digit comes next
-more-end : (limit v : ℕ) (s : List ℕ) → digitNext s ≡ false → readMore limit v s ≡ found v s
+pub more-end : (limit v : ℕ) (s : List ℕ) → digitNext s ≡ false → readMore limit v s ≡ found v s
 unfolding readMore digitNext
 more-end limit v [] h = refl
 more-end limit v (c ∷ s) h = rw h refl
 
+-- ---- what was printed reads back
+
+more-digit : (limit v d : ℕ) (s : List ℕ) → d < 10 → v * 10 + d ≤ limit → readMore limit v ((digitZero + d) ∷ s) ≡ readMore limit (v * 10 + d) s
+more-digit limit v d s h k =
+    let e : grown v (digitZero + d) ≡ v * 10 + d = omega arith in
+    more-on limit v (digitZero + d) s (digit-yes (digitZero + d) (omega arith) (omega arith)) (omega arith) ∙ ap (λ (x : ℕ). readMore limit x s) e
+
 one-digit : (limit n : ℕ) (s : List ℕ) → n < 10 → 1 ≤ n → n ≤ limit → readNumber limit (numberText n ++ s) ≡ readMore limit n s
-unfolding readNumber nextIs digitNext
+unfolding nextIs digitNext
 one-digit limit n s b p k =
     let e : 0 * 10 + n ≡ n = omega arith in
-    rw (text-small n b, ne-eqb (digitZero + n) digitZero (λ e. omega arith), digit-yes (digitZero + n) (omega arith) (omega arith))
-    (more-digit limit 0 n s b (omega arith) ∙ ap (λ (v : ℕ). readMore limit v s) e)
+    rw (text-small n b)
+    (number-first limit ((digitZero + n) ∷ s) (ne-eqb (digitZero + n) digitZero (λ e. omega arith)) (digit-yes (digitZero + n) (omega arith) (omega arith))
+    ∙ more-digit limit 0 n s b (omega arith)
+    ∙ ap (λ (v : ℕ). readMore limit v s) e)
 
 -- the digits of n are read as n; the first argument bounds them
 number-more : (k limit n : ℕ) (s : List ℕ) → n ≤ k → 1 ≤ n → n ≤ limit → readNumber limit (numberText n ++ s) ≡ readMore limit n s

@@ -1,22 +1,22 @@
 -- Role sets as text: lists of roles and their sets; what was printed reads back, and nothing else reads. Assumes nothing.
-use mathlib.Core.Path.{_≡_, refl, sym, ap, _∙_, subst, subst⁻¹}
-use mathlib.Core.Bool.{Bool, true, false, cond, false≢true}
+use mathlib.Core.Path.{_≡_, refl, sym, ap, _∙_, subst}
+use mathlib.Core.Bool.{Bool, true, false, cond}
 use mathlib.Core.List.{List, [], _∷_, _++_, append-assoc}
 use mathlib.Core.Logic.{_↔_, _⊎_, inl, inr, ⊎-elim, by-cases}
 use Prim.Native.Nat.{ℕ, zero, suc, _+_, _^_, _≤_, _<_}
 use native.Mathlib.Decide.{decLt}
 use native.Mathlib.Omega.{arith}
-use borrow.Author.Tests.{le-ltb, ne-eqb, ltb-false, eqb-true, eqb-false}
+use borrow.Author.Tests.{lt-ltb, le-ltb, ne-eqb, ltb-false, eqb-true, eqb-false}
 use lib.Bits.{or-zero-r}
 use lib.Dec.{lit<, T, ltb, eqb}
 use lib.ListN.{drop}
 use Rattle.roles.specs.Sets.{has, In, single, joined}
 use Rattle.roles.proofs.Member.{T-ext, in-empty, in-single, in-joined, set-ext, below-law}
-use Rattle.roles.proofs.Laws.{in-own-single, in⇒nonempty}
+use Rattle.roles.proofs.Laws.{in⇒nonempty}
 use Rattle.text.specs.Ascii.{comma, minus}
 use Rattle.text.specs.Number.{numberText, Got, found, bad, isDigit, digitNext, nextIs, readNumber}
 use Rattle.text.specs.Set.{lastRole, mostRoles, rolesFrom, rolesOf, roleText, rolesText, setText, readRole, readRoles, readSet}
-use Rattle.text.proofs.NumberLaws.{Printed, number-back, number-only, next-is, bad≢found}
+use Rattle.text.proofs.NumberLaws.{number-back, number-only, next-is, bad≢found}
 
 -- ---- lists of roles
 
@@ -117,18 +117,45 @@ rolesOf-setOf l f = rolesFrom-is mostRoles 0 (setOf l) l (omega arith) f (λ q h
 -- a role beside s, then those of l: all of them beside s
 joined-setOf : (s r : ℕ) (l : List ℕ) → joined (joined s (single r)) (setOf l) ≡ joined s (setOf (r ∷ l))
 joined-setOf s r l = set-ext (joined (joined s (single r)) (setOf l)) (joined s (setOf (r ∷ l))) (λ q.
-  let a = in-joined (joined s (single r)) (setOf l) q in
-  let b = in-joined s (single r) q in
-  let c = in-joined s (setOf (r ∷ l)) q in
-  let d = in-setOf r l q in
-  let o = in-single r q in (
-    (λ i. c .1 (⊎-elim (λ j. ⊎-elim (λ x. inl x) (λ x. inr (d .1 (inl (o .0 x)))) (b .0 j)) (λ x. inr (d .1 (inr x))) (a .0 i))),
-    λ i. a .1 (⊎-elim (λ x. inl (b .1 (inl x))) (λ j. ⊎-elim (λ x. inl (b .1 (inr (o .1 x)))) (λ x. inr x) (d .0 j)) (c .0 i)),
-  ))
+    let a = in-joined (joined s (single r)) (setOf l) q in
+    let b = in-joined s (single r) q in
+    let c = in-joined s (setOf (r ∷ l)) q in
+    let d = in-setOf r l q in
+    let o = in-single r q in (
+      (λ i. c .1 (⊎-elim (λ j. ⊎-elim (λ x. inl x) (λ x. inr (d .1 (inl (o .0 x)))) (b .0 j)) (λ x. inr (d .1 (inr x))) (a .0 i))),
+      λ i. a .1 (⊎-elim (λ x. inl (b .1 (inl x))) (λ j. ⊎-elim (λ x. inl (b .1 (inr (o .1 x)))) (λ x. inr x) (d .0 j)) (c .0 i)),
+    ))
 
 joined-alone : (s r : ℕ) → joined s (single r) ≡ joined s (setOf (r ∷ []))
 unfolding joined setOf
 joined-alone s r = sym (ap (joined s) (or-zero-r (single r)))
+
+-- ---- reading, role by role
+
+-- the first byte of a set
+pub set-minus : (t : List ℕ) → nextIs minus t ≡ true → readSet t ≡ found 0 (drop 1 t)
+unfolding readSet
+set-minus t e = rw e refl
+
+pub set-roles : (t : List ℕ) → nextIs minus t ≡ false → readSet t ≡ readRoles mostRoles 0 0 t
+unfolding readSet
+set-roles t e = rw e refl
+
+-- a role that was read, and what comes after it
+pub roles-step : (k s low r : ℕ) (t u : List ℕ) → readNumber lastRole t ≡ found r u → low ≤ r
+    → readRoles (suc k) s low t ≡ cond (nextIs comma u) (readRoles k (joined s (single r)) (suc r) (drop 1 u)) (found (joined s (single r)) u)
+unfolding readRoles readRole
+roles-step k s low r t u e h = rw (e, le-ltb r low h) refl
+
+pub roles-bad : (k s low : ℕ) (t : List ℕ) → readNumber lastRole t ≡ bad → readRoles k s low t ≡ bad
+unfolding readRoles readRole
+roles-bad zero s low t e = refl
+roles-bad (suc k) s low t e = rw e refl
+
+pub roles-low : (k s low r : ℕ) (t u : List ℕ) → readNumber lastRole t ≡ found r u → r < low → readRoles k s low t ≡ bad
+unfolding readRoles readRole
+roles-low zero s low r t u e h = refl
+roles-low (suc k) s low r t u e h = rw (e, lt-ltb r low h) refl
 
 -- ---- what was printed reads back
 
@@ -143,23 +170,20 @@ unfolding rolesText roleText digitNext isDigit
 later-digit [] t e = e
 later-digit (r ∷ l) t e = refl
 
--- one role, and what comes after it
-role-first : (k r s low : ℕ) (u : List ℕ) → low ≤ r → r ≤ lastRole → digitNext u ≡ false
-    → readRoles (suc k) s low (numberText r ++ u) ≡ cond (nextIs comma u) (readRoles k (joined s (single r)) (suc r) (drop 1 u)) (found (joined s (single r)) u)
-unfolding readRoles readRole
-role-first k r s low u h g e = rw (number-back lastRole r u g e, le-ltb r low h) refl
+first-role : (r : ℕ) (l t : List ℕ) → r ≤ lastRole → digitNext t ≡ false → readNumber lastRole (rolesText false (r ∷ l) ++ t) ≡ found r (rolesText true l ++ t)
+unfolding rolesText roleText
+first-role r l t h e =
+    ap (readNumber lastRole) (append-assoc (numberText r) (rolesText true l) t) ∙ number-back lastRole r (rolesText true l ++ t) h (later-digit l t e)
 
 roles-back : (r : ℕ) (l : List ℕ) (k s low : ℕ) (t : List ℕ) → From low (r ∷ l) → mostRoles ≤ k + low → Ends t
     → readRoles k s low (rolesText false (r ∷ l) ++ t) ≡ found (joined s (setOf (r ∷ l))) t
 unfolding rolesText roleText nextIs
 roles-back r l zero s low t f h e = absurd (omega arith)
 roles-back r [] (suc k) s low t f h e =
-    ap (readRoles (suc k) s low) (append-assoc (numberText r) [] t)
-    ∙ role-first k r s low t (f .0) (f .1) (e .digit)
+    roles-step k s low r (rolesText false (r ∷ []) ++ t) t (first-role r [] t (f .1) (e .digit)) (f .0)
     ∙ rw (e .comma, joined-alone s r) refl
 roles-back r (q ∷ l) (suc k) s low t f h e =
-    ap (readRoles (suc k) s low) (append-assoc (numberText r) (rolesText true (q ∷ l)) t)
-    ∙ role-first k r s low (rolesText true (q ∷ l) ++ t) (f .0) (f .1) (later-digit (q ∷ l) t (e .digit))
+    roles-step k s low r (rolesText false (r ∷ q ∷ l) ++ t) (rolesText true (q ∷ l) ++ t) (first-role r (q ∷ l) t (f .1) (e .digit)) (f .0)
     ∙ roles-back q l k (joined s (single r)) (suc r) t (f .2) (omega arith) e
     ∙ ap (λ (x : ℕ). found x t) (joined-setOf s r (q ∷ l))
 
@@ -175,20 +199,14 @@ number-no-minus t v u e = go (nextIs minus t) refl
     go true q = absurd (bad≢found (sym (minus-no-number lastRole (drop 1 t)) ∙ ap (readNumber lastRole) (sym (next-is minus t q)) ∙ e))
     go false q = refl
 
-roles-no-minus : (r : ℕ) (l t : List ℕ) → r ≤ lastRole → digitNext t ≡ false → nextIs minus (rolesText false (r ∷ l) ++ t) ≡ false
-unfolding rolesText roleText
-roles-no-minus r l t h e =
-    number-no-minus (rolesText false (r ∷ l) ++ t) r (rolesText true l ++ t)
-    (ap (readNumber lastRole) (append-assoc (numberText r) (rolesText true l) t) ∙ number-back lastRole r (rolesText true l ++ t) h (later-digit l t e))
-
 pub set-back : (s : ℕ) (t : List ℕ) → s < 2 ^ 64 → Ends t → readSet (setText s ++ t) ≡ found s t
 unfolding readSet setText nextIs rolesOf joined setOf
-set-back s t h e = go (eqb s 0) refl (rolesOf s) refl (roles-from mostRoles 0 s (omega arith)) (setOf-rolesOf s h)
+set-back s t h e = go (eqb s 0) refl (rolesOf s) (roles-from mostRoles 0 s (omega arith)) (setOf-rolesOf s h)
   where
-    go : (b : Bool) → eqb s 0 ≡ b → (l : List ℕ) → rolesOf s ≡ l → From 0 l → setOf l ≡ s → readSet (cond b (minus ∷ []) (rolesText false l) ++ t) ≡ found s t
-    go true p l q f i = rw (eqb-true s 0 p) refl
-    go false p [] q f i = absurd (eqb-false s 0 p (sym i))
-    go false p (r ∷ l) q f i = rw (roles-no-minus r l t (f .1) (e .digit)) (roles-back r l mostRoles 0 0 t f (omega arith) e ∙ ap (λ (x : ℕ). found x t) i)
+    go : (b : Bool) → eqb s 0 ≡ b → (l : List ℕ) → From 0 l → setOf l ≡ s → readSet (cond b (minus ∷ []) (rolesText false l) ++ t) ≡ found s t
+    go true p l f i = rw (eqb-true s 0 p) refl
+    go false p [] f i = absurd (eqb-false s 0 p (sym i))
+    go false p (r ∷ l) f i = set-roles (rolesText false (r ∷ l) ++ t) (number-no-minus (rolesText false (r ∷ l) ++ t) r (rolesText true l ++ t) (first-role r l t (f .1) (e .digit))) ∙ (roles-back r l mostRoles 0 0 t f (omega arith) e ∙ ap (λ (x : ℕ). found x t) i)
 
 -- ---- nothing else reads
 

@@ -4,6 +4,9 @@
 --     minus                   the empty set
 --     space                   parts the fields of a line
 --     lf                      ends a line
+--     Lacks b t               the byte b is nowhere in t
+use mathlib.Core.List.{List, [], _∷_}
+use mathlib.Core.Logic.{_≢_}
 use Prim.Native.Nat.{ℕ}
 
 abbrev pub digitZero : ℕ
@@ -23,3 +26,7 @@ space = 32
 
 abbrev pub lf : ℕ
 lf = 10
+
+abbrev pub Lacks : ℕ → List ℕ → Type 0
+Lacks b [] = Unit {0}
+Lacks b (c ∷ t) = (c ≢ b) × Lacks b t
