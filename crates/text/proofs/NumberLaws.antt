@@ -10,7 +10,7 @@ use borrow.Author.Tests.{lt-ltb, le-ltb, le-leb, lt-leb, ne-eqb, ltb-false, leb-
 use lib.Dec.{ltb, leb, eqb}
 use lib.ListN.{drop}
 use Rattle.text.specs.Ascii.{digitZero, digitNine}
-use Rattle.text.specs.Number.{digits, numberText, Got, found, bad, isDigit, digitNext, nextIs, grown, readMore, readNumber}
+use Rattle.text.specs.Number.{digits, numberText, found, bad, isDigit, digitNext, nextIs, grown, readMore, readNumber}
 
 -- ---- the text
 

@@ -1,6 +1,6 @@
 -- Role sets as text: lists of roles and their sets; what was printed reads back, and nothing else reads. Assumes nothing.
-use mathlib.Core.Path.{_≡_, refl, sym, ap, _∙_, subst, subst⁻¹}
-use mathlib.Core.Bool.{Bool, true, false, cond, false≢true}
+use mathlib.Core.Path.{_≡_, refl, sym, ap, _∙_, subst}
+use mathlib.Core.Bool.{Bool, true, false, cond}
 use mathlib.Core.List.{List, [], _∷_, _++_, append-assoc}
 use mathlib.Core.Logic.{_↔_, _⊎_, inl, inr, ⊎-elim, by-cases}
 use Prim.Native.Nat.{ℕ, zero, suc, _+_, _^_, _≤_, _<_}
@@ -12,11 +12,11 @@ use lib.Dec.{lit<, T, ltb, eqb}
 use lib.ListN.{drop}
 use Rattle.roles.specs.Sets.{has, In, single, joined}
 use Rattle.roles.proofs.Member.{T-ext, in-empty, in-single, in-joined, set-ext, below-law}
-use Rattle.roles.proofs.Laws.{in-own-single, in⇒nonempty}
+use Rattle.roles.proofs.Laws.{in⇒nonempty}
 use Rattle.text.specs.Ascii.{comma, minus}
 use Rattle.text.specs.Number.{numberText, Got, found, bad, isDigit, digitNext, nextIs, readNumber}
 use Rattle.text.specs.Set.{lastRole, mostRoles, rolesFrom, rolesOf, roleText, rolesText, setText, readRole, readRoles, readSet}
-use Rattle.text.proofs.NumberLaws.{Printed, number-back, number-only, next-is, bad≢found}
+use Rattle.text.proofs.NumberLaws.{number-back, number-only, next-is, bad≢found}
 
 -- ---- lists of roles
 

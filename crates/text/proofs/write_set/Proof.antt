@@ -1,10 +1,10 @@
 -- `text::write_set` meets its contract: the roles not yet passed finish the text. Assumes nothing.
 use borrow.Author.Needs.{needs}
-use mathlib.Core.Path.{_≡_, sym, ap, _∙_, subst}
+use mathlib.Core.Path.{sym, ap, _∙_, subst}
 use mathlib.Core.Bool.{true}
 use Prim.Native.Nat.{_+_, _-_, _≤_}
 use native.Mathlib.Omega.{arith}
-use lib.ListN.{length, length-set}
+use lib.ListN.{length}
 use Rattle.text.specs.Ascii.{minus}
 use Rattle.text.specs.Set.{mostRoles, roleText, setText}
 use Rattle.text.proofs.WriteLaws.{wrote-one, Left, left-start, left-next, left-room, left-end, empty-text, restText, rest-start, rest-has, rest-lacks, rest-end}

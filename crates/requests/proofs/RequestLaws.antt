@@ -1,0 +1,80 @@
+-- Requests: what was printed reads back, and nothing else is read. Assumes nothing.
+use mathlib.Core.Path.{_≡_, refl, sym, ap, _∙_, subst}
+use mathlib.Core.Bool.{Bool, true, false, cond}
+use mathlib.Core.List.{List, [], _∷_, _++_}
+use mathlib.Core.Logic.{_≢_, _⊎_, inl, inr}
+use Prim.Native.Nat.{ℕ, _≤_}
+use native.Mathlib.Omega.{arith}
+use borrow.Author.Tests.{eqb-true, ne-eqb}
+use lib.Dec.{eqb}
+use lib.ListN.{length, drop, getD}
+use Rattle.meaning.specs.declared.Happening.{Happening}
+use Rattle.meaning.specs.declared.Happening.the-variants.{Allow, Deny, Given, Withdrawn}
+use Rattle.requests.specs.Fields.{lastCount, lastPermission}
+use Rattle.requests.specs.Request.{letterO, letterA, letterD, letterG, letterR, letterQ, letterF, letterS, eventText, requestText, HappeningInRange, InRange, told, byLetter, requestOf}
+use Rattle.requests.specs.declared.Request.{Request}
+use Rattle.requests.specs.declared.Request.the-variants.{Open, Told, Decide, Forget, Show, Unreadable}
+use Rattle.requests.proofs.FieldLaws.{number-last-back, permission-set-back, permission-role-back, ended-only, number-last-only, permission-set-only, permission-role-only}
+
+-- ---- what was printed reads back
+
+event-back : (p : ℕ) (h : Happening) → p ≤ lastPermission → HappeningInRange h → requestOf (eventText p h) ≡ told p h
+unfolding requestOf eventText byLetter
+event-back p (Allow s) k w = permission-set-back Unreadable (λ p s. told p (Allow s)) p s k w
+event-back p (Deny s) k w = permission-set-back Unreadable (λ p s. told p (Deny s)) p s k w
+event-back p (Given r) k w = permission-role-back Unreadable (λ p r. told p (Given r)) p r k w
+event-back p (Withdrawn r) k w = permission-role-back Unreadable (λ p r. told p (Withdrawn r)) p r k w
+
+pub request-back : (q : Request) → InRange q → requestOf (requestText q) ≡ q
+unfolding requestOf requestText byLetter
+request-back (Open n) h = number-last-back Unreadable Open lastCount n h
+request-back (Told e) h = event-back (e .permission) (e .happening) (h .0) (h .1)
+request-back (Decide p s) h = permission-set-back Unreadable Decide p s (h .0) (h .1)
+request-back (Forget p) h = number-last-back Unreadable Forget lastPermission p h
+request-back Show h = refl
+request-back Unreadable h = absurd h
+
+-- ---- only what was printed is read
+
+-- s is the text of q, or q says that nothing was read
+abbrev pub Said : List ℕ → Request → Type 0
+Said s q = (q ≡ Unreadable) ⊎ ((s ≡ requestText q) × InRange q)
+
+-- one letter, and the letters after it
+letter : (c k : ℕ) (t : List ℕ) (x y : Request) → (c ≡ k → Said (c ∷ t) x) → Said (c ∷ t) y → Said (c ∷ t) (cond (eqb c k) x y)
+letter c k t x y f g = go (eqb c k) refl
+  where
+    go : (b : Bool) → eqb c k ≡ b → Said (c ∷ t) (cond b x y)
+    go true e = f (eqb-true c k e)
+    go false e = g
+
+pub request-only : (s : List ℕ) → Said s (requestOf s)
+unfolding requestOf byLetter requestText eventText
+request-only [] = inl refl
+request-only (c ∷ t) =
+    let P = Said (c ∷ t) in
+    letter c letterO t _ _ (λ l. number-last-only Unreadable P (inl refl) Open lastCount t (λ n e h. inr (rw (l, e) refl, h)))
+    (letter c letterA t _ _ (λ l. permission-set-only Unreadable P (inl refl) (λ p s. told p (Allow s)) t (λ p s e h k. inr (rw (l, e) refl, (h, k))))
+    (letter c letterD t _ _ (λ l. permission-set-only Unreadable P (inl refl) (λ p s. told p (Deny s)) t (λ p s e h k. inr (rw (l, e) refl, (h, k))))
+    (letter c letterG t _ _ (λ l. permission-role-only Unreadable P (inl refl) (λ p r. told p (Given r)) t (λ p r e h k. inr (rw (l, e) refl, (h, k))))
+    (letter c letterR t _ _ (λ l. permission-role-only Unreadable P (inl refl) (λ p r. told p (Withdrawn r)) t (λ p r e h k. inr (rw (l, e) refl, (h, k))))
+    (letter c letterQ t _ _ (λ l. permission-set-only Unreadable P (inl refl) Decide t (λ p s e h k. inr (rw (l, e) refl, (h, k))))
+    (letter c letterF t _ _ (λ l. number-last-only Unreadable P (inl refl) Forget lastPermission t (λ p e h. inr (rw (l, e) refl, h)))
+    (letter c letterS t _ _ (λ l. ended-only Unreadable P (inl refl) Show t (λ e. inr (rw (l, e) refl, tt))) (inl refl))))))))
+
+-- ---- the letter at the head of a line
+
+pub request-empty : (line : List ℕ) → length line ≡ 0 → Unreadable ≡ requestOf line
+unfolding requestOf
+request-empty [] e = refl
+request-empty (c ∷ t) e = absurd (omega arith)
+
+pub request-letter : (k : ℕ) (line : List ℕ) → length line ≢ 0 → getD line 0 0 ≡ k → byLetter k (drop 1 line) ≡ requestOf line
+unfolding requestOf
+request-letter k [] n e = absurd (n refl)
+request-letter k (c ∷ t) n e = rw e refl
+
+pub no-letter : (c : ℕ) (t : List ℕ) → c ≢ letterO → c ≢ letterA → c ≢ letterD → c ≢ letterG → c ≢ letterR → c ≢ letterQ → c ≢ letterF → c ≢ letterS → Unreadable ≡ byLetter c t
+unfolding byLetter
+no-letter c t o a d g r q f s =
+    sym (rw (ne-eqb c letterO o, ne-eqb c letterA a, ne-eqb c letterD d, ne-eqb c letterG g, ne-eqb c letterR r, ne-eqb c letterQ q, ne-eqb c letterF f, ne-eqb c letterS s) refl)
