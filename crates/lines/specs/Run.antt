@@ -8,15 +8,16 @@
 --     mostText            no turn writes more
 --     goesOn room m       a turn is taken while there is something to do, and room for what it writes
 --     Advances room m k t turns are taken from m on as long as it goes on: they come to k and write t
---     Advanced            what `advance` did
+--     runAt, settledRow   a run at another row; the row to go on with, where a bad area has none
+--     placed, Ready, Comes, Shown, Advanced    what the functions of the code ask and promise
 use mathlib.Core.Path.{_≡_}
 use mathlib.Core.Bool.{Bool, true, false, cond, _&&_, _||_}
 use mathlib.Core.List.{List, [], _∷_, _++_}
 use Prim.Native.Nat.{ℕ, suc, _+_, _-_, _≤_}
 use lib.Dec.{ltb, leb}
 use lib.ListN.{length, take, drop}
-use Rattle.area.specs.Layout.{mostRows}
-use Rattle.walker.specs.Walk.{walked}
+use Rattle.area.specs.Layout.{mostRows, goodBytes}
+use Rattle.walker.specs.Walk.{walked, Walkable}
 use Rattle.table.specs.Table.{nth}
 use Rattle.text.specs.Write.{Wrote}
 use Rattle.requests.specs.declared.Request.{Request}
@@ -94,9 +95,40 @@ pub data Advances : ℕ → Place → Place → List ℕ → Type 0 where
   stops : {room : ℕ} {m : Place} → goesOn room m ≡ false → Advances room m m []
   turns : {room : ℕ} {m k : Place} {t : List ℕ} → goesOn room m ≡ true → Advances (room - length (turnText m)) (turned m) k t → Advances room m k (turnText m ++ t)
 
+-- ---- what the code's functions promise
+
+-- the run r at another row; where there are rows to be shown, the area is good
+abbrev pub runAt : Run → ℕ → Run
+runAt r i = record { line = r .line; number = r .number; row = i }
+
+abbrev pub settledRow : List ℕ → ℕ → ℕ
+settledRow l i = cond (ltb i mostRows) (cond (goodBytes l) i mostRows) i
+
+-- where the code has come to on the area l, in the piece bs
+abbrev pub placed : Progress → List ℕ → List ℕ → Place
+placed p l bs = placeOf (p .run) l (drop (p .read) bs)
+
+-- a turn can be taken on the area l, in the piece bs, into the buffer d
+pub record Ready (p : Progress) (l bs d : List ℕ) : Type 0 where
+  pub read : p .read ≤ length bs
+  pub room : p .written + mostText ≤ length d
+  pub walkable : Walkable l (p .run .row)
+
+-- from p on, it comes to m, which is r on the area l in the piece bs, and writes t: e is the buffer d afterwards
+pub record Comes (p : Progress) (m : Place) (t d : List ℕ) (r : Progress) (l bs e : List ℕ) : Type 0 where
+  pub read : r .read ≤ length bs
+  pub place : placed r l bs ≡ m
+  pub wrote : Wrote d (p .written) t e (r .written)
+
+-- a row shown, whatever the piece is
+pub record Shown (p : Progress) (l d : List ℕ) (r : Progress) (e : List ℕ) : Type 0 where
+  pub read : r .read ≡ p .read
+  pub place : (bs : List ℕ) → placeOf (r .run) l bs ≡ rowShown (placeOf (p .run) l bs)
+  pub wrote : Wrote d (p .written) (shownText (placeOf (p .run) l [])) e (r .written)
+
 -- from the run r on the area l with the input bs, into the buffer d; p, l′ and e are what it came to, the area and the buffer afterwards
 pub record Advanced (r : Run) (l bs d : List ℕ) (p : Progress) (l′ e : List ℕ) : Type 0 where
   pub text : List ℕ
   pub read : p .read ≤ length bs
   pub wrote : Wrote d 0 text e (p .written)
-  pub goes : Advances (length d) (placeOf r l bs) (placeOf (p .run) l′ (drop (p .read) bs)) text
+  pub goes : Advances (length d) (placeOf r l bs) (placed p l′ bs) text
