@@ -2,5 +2,7 @@
 pub mod SplitLaws
 mod AnswerLaws
 mod Texts
+mod Places
+mod Steps
 pub mod Turns
 pub mod Program

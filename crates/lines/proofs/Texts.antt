@@ -45,9 +45,9 @@ length-row e p k =
     let s = length-sets-text (e .row .denied ∷ e .row .opens) in
     simp length-append (omega arith)
 
-pub length-answer : (k a : ℕ) → k < 2 ^ 64 → a < 100 → length (answerText k a) ≤ 4096
+pub length-answer : (k a : ℕ) → k < 2 ^ 64 → a < 2 ^ 32 → length (answerText k a) ≤ 4096
 unfolding answerText
 length-answer k a h j =
     let n = length-number 19 k (omega arith) in
-    let m = length-number 1 a (omega arith) in
+    let m = length-number 9 a (omega arith) in
     simp length-append (omega arith)

@@ -119,12 +119,14 @@ pub record Comes (p : Progress) (m : Place) (t d : List ℕ) (r : Progress) (l b
   pub read : r .read ≤ length bs
   pub place : placed r l bs ≡ m
   pub wrote : Wrote d (p .written) t e (r .written)
+  pub inside : r .written ≤ length d
 
 -- a row shown, whatever the piece is
 pub record Shown (p : Progress) (l d : List ℕ) (r : Progress) (e : List ℕ) : Type 0 where
   pub read : r .read ≡ p .read
   pub place : (bs : List ℕ) → placeOf (r .run) l bs ≡ rowShown (placeOf (p .run) l bs)
   pub wrote : Wrote d (p .written) (shownText (placeOf (p .run) l [])) e (r .written)
+  pub inside : r .written ≤ length d
 
 -- from the run r on the area l with the input bs, into the buffer d; p, l′ and e are what it came to, the area and the buffer afterwards
 pub record Advanced (r : Run) (l bs d : List ℕ) (p : Progress) (l′ e : List ℕ) : Type 0 where

@@ -141,10 +141,11 @@ fn goes_on(p: Progress, bytes: usize, room: usize) -> bool
 fn settled(run: Run, area: &[u8]) -> Run
     ensures { λ r. ⌜ r ≡ runAt run (settledRow (now (area .entry)) (run .row)) ⌝ }
 {
+    let line = run.line;
     if run.row < MOST_ROWS {
         if !check(area) {
             return Run {
-                line: run.line,
+                line,
                 number: run.number,
                 row: MOST_ROWS,
             };

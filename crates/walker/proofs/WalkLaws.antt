@@ -51,7 +51,7 @@ answer-bad l e = rw e
 
 -- ---- the rows that are walked
 
-walked-good : (l : List ℕ) → T (goodBytes l) → walked l ≡ rowsIn l
+pub walked-good : (l : List ℕ) → T (goodBytes l) → walked l ≡ rowsIn l
 unfolding walked
 walked-good l t = rw (is-true (goodBytes l) t)
 
