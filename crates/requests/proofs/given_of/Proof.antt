@@ -1,5 +1,6 @@
 -- `requests::given_of` meets its contract. Assumes nothing.
 use borrow.Author.Needs.{needs}
+use mathlib.Core.Path.{sym, _∙_}
 use lib.ListN.{drop}
 use Rattle.requests.specs.Request.{told, byLetter}
 use Rattle.meaning.specs.declared.Happening.the-variants.{Given}
@@ -11,11 +12,11 @@ use Rattle.requests.proofs.given_of.Tie as tie
 
 returns : tie.Need-returns
 unfolding byLetter
-returns c = of-role Unreadable (λ p r. told p (Given r)) (drop 1 (c .before .before .before .before .args .line .now)) role.Bad (cc)
+returns c = of-role Unreadable (λ p r. told p (Given r)) (drop 1 (c .before .before .before .before .args .line .now)) role.Bad (sym (c .enum-told .given .1) ∙ c .before .before .permission-role .ensures)
 
 returns-2 : tie.Need-returns-2
 unfolding byLetter
-returns-2 c = of-role Unreadable (λ p r. told p (Given r)) (drop 1 (c .before .before .before .before .before .args .line .now)) (role.Read (c .before .permission .given .0 .0) (c .before .permission .given .0 .1 .0)) (cc)
+returns-2 c = of-role Unreadable (λ p r. told p (Given r)) (drop 1 (c .before .before .before .before .before .args .line .now)) (role.Read (c .before .permission .given .0 .0) (c .before .permission .given .0 .1 .0)) (sym (c .before .permission .given .1) ∙ c .before .before .before .permission-role .ensures)
 
 pub given-of-spec : {M : Type 1} → statement M
 given-of-spec = tie.close (tie.spec (λ c κs. search needs) (λ c. search needs) (λ c. search needs) returns returns-2)

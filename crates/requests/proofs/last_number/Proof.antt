@@ -1,6 +1,6 @@
 -- `requests::last_number` meets its contract. Assumes nothing.
 use borrow.Author.Needs.{needs}
-use mathlib.Core.Path.{_∙_}
+use mathlib.Core.Path.{sym, _∙_}
 use native.Mathlib.Omega.{arith}
 use lib.Arith.{lt-of-le-ne}
 use lib.ListN.{drop}
@@ -14,7 +14,7 @@ returns : tie.Need-returns
 returns c =
     let d = c .before .before .before in
     let a = d .before .before .args in
-    number-is number.Bad (drop (a .at) (a .line .now)) bad number.Value (a .limit) (number-unspaced (a .line .now) (a .at) (d .field-at .result) (d .field-at .ensures) (a .limit) (cc))
+    number-is number.Bad (drop (a .at) (a .line .now)) bad number.Value (a .limit) (number-unspaced (a .line .now) (a .at) (d .field-at .result) (d .field-at .ensures) (a .limit) (sym (c .enum-told .given .1) ∙ c .before .before .read-number .ensures))
 
 returns-2 : tie.Need-returns-2
 returns-2 c =
@@ -22,7 +22,7 @@ returns-2 c =
     let a = d .before .before .args in
     let v = c .before .before .value .given .0 .0 in
     let n = c .before .before .value .given .0 .1 .0 in
-    let t = number-spaced (a .line .now) (a .at) (d .field-at .result) (d .field-at .ensures) (a .limit) v n (cc) in
+    let t = number-spaced (a .line .now) (a .at) (d .field-at .result) (d .field-at .ensures) (a .limit) v n (sym (c .before .before .value .given .1) ∙ c .before .before .before .before .read-number .ensures) in
     ended-there number.Bad (number.Value v) (a .line .now) n (omega arith) ∙ number-is number.Bad (drop (a .at) (a .line .now)) (found v (drop n (a .line .now))) number.Value (a .limit) (t .0)
 
 returns-3 : tie.Need-returns-3
@@ -31,7 +31,7 @@ returns-3 c =
     let a = d .before .before .args in
     let v = c .before .before .value .given .0 .0 in
     let n = c .before .before .value .given .0 .1 .0 in
-    let t = number-spaced (a .line .now) (a .at) (d .field-at .result) (d .field-at .ensures) (a .limit) v n (cc) in
+    let t = number-spaced (a .line .now) (a .at) (d .field-at .result) (d .field-at .ensures) (a .limit) v n (sym (c .before .before .value .given .1) ∙ c .before .before .before .before .read-number .ensures) in
     ended-later number.Bad (number.Value v) (a .line .now) n (lt-of-le-ne (t .2) (c .if1 .left)) ∙ number-is number.Bad (drop (a .at) (a .line .now)) (found v (drop n (a .line .now))) number.Value (a .limit) (t .0)
 
 pub last-number-spec : {M : Type 1} → statement M

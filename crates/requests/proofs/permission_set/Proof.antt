@@ -1,6 +1,6 @@
 -- `requests::permission_set` meets its contract. Assumes nothing.
 use borrow.Author.Needs.{needs}
-use mathlib.Core.Path.{_≡_, _∙_}
+use mathlib.Core.Path.{_≡_, sym, _∙_}
 use mathlib.Core.List.{List}
 use Prim.Native.Nat.{ℕ, _≤_}
 use native.Mathlib.Omega.{arith}
@@ -25,7 +25,7 @@ next-of c = c .before .value .given .0 .1 .0
 permission-read : (c : tie.After-known-told) → (readNumber lastPermission (fieldOf (drop 1 (line-of c))) ≡ found (permission-of c) (drop (next-of c) (line-of c))) × (permission-of c ≤ lastPermission) × (next-of c ≤ length (line-of c))
 permission-read c =
     let d = c .before .before .before .before in
-    number-spaced (line-of c) 1 (d .field-at .result) (d .field-at .ensures) lastPermission (permission-of c) (next-of c) (cc)
+    number-spaced (line-of c) 1 (d .field-at .result) (d .field-at .ensures) lastPermission (permission-of c) (next-of c) (sym (c .before .value .given .1) ∙ c .before .before .before .read-number .ensures)
 
 -- what the set's field reads as is what both read as
 behind : (c : tie.After-known-told) → lastSet set.Bad (set.Read (permission-of c)) (drop (next-of c) (line-of c)) ≡ permissionSet set.Bad set.Read (drop 1 (line-of c))
@@ -35,13 +35,13 @@ returns : tie.Need-returns
 returns c =
     let d = c .before .before .before in
     let line = d .before .before .args .line .now in
-    permission-set-is set.Bad (drop 1 line) bad set.Read (number-unspaced line 1 (d .field-at .result) (d .field-at .ensures) lastPermission (cc))
+    permission-set-is set.Bad (drop 1 line) bad set.Read (number-unspaced line 1 (d .field-at .result) (d .field-at .ensures) lastPermission (sym (c .enum-told .given .1) ∙ c .before .before .read-number .ensures))
 
 returns-2 : tie.Need-returns-2
 returns-2 c =
     let f = c .before .before .before in
     let d = f .before in
-    set-is set.Bad (drop (next-of d) (line-of d)) bad (set.Read (permission-of d)) (set-unspaced (line-of d) (next-of d) (f .field-at2 .result) (f .field-at2 .ensures) (cc)) ∙ behind d
+    set-is set.Bad (drop (next-of d) (line-of d)) bad (set.Read (permission-of d)) (set-unspaced (line-of d) (next-of d) (f .field-at2 .result) (f .field-at2 .ensures) (sym (c .enum-told2 .given .1) ∙ c .before .before .read-set .ensures)) ∙ behind d
 
 cast-t11 : tie.Need-cast-t11
 cast-t11 c = let p = permission-read (c .before .before .before .before .before .before) in omega arith
@@ -52,7 +52,7 @@ returns-3 c =
     let d = f .before in
     let s = c .before .before .set .given .0 .0 in
     let n = c .before .before .set .given .0 .1 .0 in
-    let t = set-spaced (line-of d) (next-of d) (f .field-at2 .result) (f .field-at2 .ensures) s n (cc) in
+    let t = set-spaced (line-of d) (next-of d) (f .field-at2 .result) (f .field-at2 .ensures) s n (sym (c .before .before .set .given .1) ∙ c .before .before .before .before .read-set .ensures) in
     ended-there set.Bad (set.Read (permission-of d) s) (line-of d) n (omega arith)
     ∙ set-is set.Bad (drop (next-of d) (line-of d)) (found (s .bits) (drop n (line-of d))) (set.Read (permission-of d)) (t .0)
     ∙ behind d
@@ -63,7 +63,7 @@ returns-4 c =
     let d = f .before in
     let s = c .before .before .set .given .0 .0 in
     let n = c .before .before .set .given .0 .1 .0 in
-    let t = set-spaced (line-of d) (next-of d) (f .field-at2 .result) (f .field-at2 .ensures) s n (cc) in
+    let t = set-spaced (line-of d) (next-of d) (f .field-at2 .result) (f .field-at2 .ensures) s n (sym (c .before .before .set .given .1) ∙ c .before .before .before .before .read-set .ensures) in
     ended-later set.Bad (set.Read (permission-of d) s) (line-of d) n (lt-of-le-ne (t .1) (c .if1 .left))
     ∙ set-is set.Bad (drop (next-of d) (line-of d)) (found (s .bits) (drop n (line-of d))) (set.Read (permission-of d)) (t .0)
     ∙ behind d
