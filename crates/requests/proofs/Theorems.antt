@@ -1,22 +1,13 @@
 -- What a reader of requests can rely on. Assumes nothing.
 use mathlib.Core.Path.{_≡_, sym, ap, _∙_, subst}
-use mathlib.Core.List.{List, _∷_, _++_}
-use mathlib.Core.Logic.{_↔_, _≢_, _⊎_, ⊎-elim}
-use Prim.Native.Nat.{ℕ, _+_, _≤_, _<_}
-use native.Mathlib.Omega.{arith}
-use lib.ListN.{length, length-append}
-use Rattle.roles.specs.declared.RoleSet.{RoleSet}
-use Rattle.meaning.specs.declared.Happening.{Happening}
-use Rattle.meaning.specs.declared.Happening.the-variants.{Allow, Deny, Given, Withdrawn}
-use Rattle.text.specs.Ascii.{space, lf, Lacks}
-use Rattle.text.specs.Number.{numberText}
-use Rattle.text.specs.Set.{setText}
-use Rattle.text.proofs.Shape.{lacks-append}
-use Rattle.text.proofs.Theorems.{number32-length, set-length, number-lacks-lf, set-lacks-lf}
-use Rattle.requests.specs.Fields.{lastPermission}
-use Rattle.requests.specs.Request.{spaced, spacedSet, eventText, requestText, HappeningInRange, InRange, requestOf}
+use mathlib.Core.List.{List}
+use mathlib.Core.Logic.{_↔_, _⊎_, ⊎-elim}
+use Prim.Native.Nat.{ℕ, _≤_}
+use lib.ListN.{length}
+use Rattle.text.specs.Ascii.{lf, Lacks}
+use Rattle.requests.specs.Request.{requestText, InRange, requestOf}
 use Rattle.requests.specs.declared.Request.{Request}
-use Rattle.requests.specs.declared.Request.the-variants.{Open, Told, Decide, Forget, Show, Unreadable}
+use Rattle.requests.specs.declared.Request.the-variants.{Unreadable}
 use Rattle.requests.proofs.RequestLaws as laws
 use Rattle.requests.proofs.Readings as read
 

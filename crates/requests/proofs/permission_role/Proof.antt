@@ -42,7 +42,7 @@ returns c =
 returns-2 : tie.Need-returns-2
 returns-2 c =
     let d = c .before .before .before in
-    of-number role.Bad (role.Read (permission-of d)) lastRole (drop (next-of d) (line-of d)) number.Bad (sym (c .enum-told2 .given .1) ∙ c .before .before .last-number .ensures) ∙ behind d
+    of-number role.Bad (role.Read (permission-of d)) lastRole (drop (next-of d) (line-of d)) (sym (c .enum-told2 .given .1) ∙ c .before .before .last-number .ensures) ∙ behind d
 
 cast-t8 : tie.Need-cast-t8
 cast-t8 c = let p = permission-read (c .before .before .before .before) in omega arith
@@ -50,7 +50,7 @@ cast-t8 c = let p = permission-read (c .before .before .before .before) in omega
 returns-3 : tie.Need-returns-3
 returns-3 c =
     let d = c .before .before .before .before in
-    of-number role.Bad (role.Read (permission-of d)) lastRole (drop (next-of d) (line-of d)) (number.Value (c .before .role .given .0 .0)) (sym (c .before .role .given .1) ∙ c .before .before .before .last-number .ensures) ∙ behind d
+    of-number role.Bad (role.Read (permission-of d)) lastRole (drop (next-of d) (line-of d)) (sym (c .before .role .given .1) ∙ c .before .before .before .last-number .ensures) ∙ behind d
 
 pub permission-role-spec : {M : Type 1} → statement M
 permission-role-spec = tie.close (tie.spec (λ c κs. search needs) (λ c κs. search needs) (λ c. search needs) (λ c. search needs) returns (λ c κs. search needs) (λ c. search needs) (λ c. search needs) returns-2 cast-t8 returns-3)
