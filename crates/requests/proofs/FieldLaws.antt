@@ -78,28 +78,28 @@ module _ {A : Type 0} (other : A) (P : A → Type 0) (none : P other) where
   pub number-last-only : (k : ℕ → A) (limit : ℕ) (t : List ℕ) → ((v : ℕ) → t ≡ spaced v → v ≤ limit → P (k v)) → P (lastNumber other k limit t)
   unfolding lastNumber
   number-last-only k limit t f = got-only (λ v u. ended other (k v) u) (readNumber limit (fieldOf t)) (λ v u e.
-    let p = spaced-number-only limit t v u e in
-    ended-only (k v) u (λ n. f v (p .0 ∙ rw n (append-nil (spaced v))) (p .1)))
+      let p = spaced-number-only limit t v u e in
+      ended-only (k v) u (λ n. f v (p .0 ∙ rw n (append-nil (spaced v))) (p .1)))
 
   pub set-last-only : (k : RoleSet → A) (t : List ℕ) → ((s : RoleSet) → t ≡ spacedSet s → s .bits < 2 ^ mostRoles → P (k s)) → P (lastSet other k t)
   unfolding lastSet
   set-last-only k t f = got-only (λ s u. ended other (k (record { bits = s })) u) (readSet (fieldOf t)) (λ s u e.
-    let p = spaced-set-only t s u e in
-    ended-only (k (record { bits = s })) u (λ n. f (record { bits = s }) (p .0 ∙ rw n (append-nil (space ∷ setText s))) (p .1)))
+      let p = spaced-set-only t s u e in
+      ended-only (k (record { bits = s })) u (λ n. f (record { bits = s }) (p .0 ∙ rw n (append-nil (space ∷ setText s))) (p .1)))
 
   pub permission-set-only : (k : ℕ → RoleSet → A) (t : List ℕ)
       → ((p : ℕ) (s : RoleSet) → t ≡ spaced p ++ spacedSet s → p ≤ lastPermission → s .bits < 2 ^ mostRoles → P (k p s)) → P (permissionSet other k t)
   unfolding permissionSet
   permission-set-only k t f = got-only (λ p u. lastSet other (k p) u) (readNumber lastPermission (fieldOf t)) (λ p u e.
-    let q = spaced-number-only lastPermission t p u e in
-    set-last-only (k p) u (λ s n b. f p s (q .0 ∙ ap (λ (x : List ℕ). spaced p ++ x) n) (q .1) b))
+      let q = spaced-number-only lastPermission t p u e in
+      set-last-only (k p) u (λ s n b. f p s (q .0 ∙ ap (λ (x : List ℕ). spaced p ++ x) n) (q .1) b))
 
   pub permission-role-only : (k : ℕ → ℕ → A) (t : List ℕ)
       → ((p r : ℕ) → t ≡ spaced p ++ spaced r → p ≤ lastPermission → r ≤ lastRole → P (k p r)) → P (permissionRole other k t)
   unfolding permissionRole
   permission-role-only k t f = got-only (λ p u. lastNumber other (k p) lastRole u) (readNumber lastPermission (fieldOf t)) (λ p u e.
-    let q = spaced-number-only lastPermission t p u e in
-    number-last-only (k p) lastRole u (λ r n b. f p r (q .0 ∙ ap (λ (x : List ℕ). spaced p ++ x) n) (q .1) b))
+      let q = spaced-number-only lastPermission t p u e in
+      number-last-only (k p) lastRole u (λ r n b. f p r (q .0 ∙ ap (λ (x : List ℕ). spaced p ++ x) n) (q .1) b))
 
 -- ---- how the code goes along a line
 

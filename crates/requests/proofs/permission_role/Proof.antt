@@ -5,10 +5,9 @@ use mathlib.Core.List.{List}
 use Prim.Native.Nat.{ℕ, _≤_}
 use native.Mathlib.Omega.{arith}
 use lib.ListN.{length, drop}
-use Rattle.text.specs.Number.{found, bad, readNumber}
+use Rattle.text.specs.Number.{found, readNumber}
 use Rattle.text.specs.Set.{lastRole}
 use Rattle.requests.specs.Fields.{lastPermission, fieldOf, lastNumber, permissionRole}
-use Rattle.requests.specs.declared.LastNumber.the-variants as number
 use Rattle.requests.specs.declared.PermissionRole.the-variants as role
 use Rattle.requests.proofs.FieldLaws.{number-spaced, number-unspaced, permission-role-is}
 use Rattle.requests.proofs.Made.{of-number}
@@ -34,15 +33,12 @@ behind : (c : tie.After-known-told) → lastNumber role.Bad (role.Read (permissi
 behind c = permission-role-is role.Bad (drop 1 (line-of c)) (found (permission-of c) (drop (next-of c) (line-of c))) role.Read (permission-read c .0)
 
 returns : tie.Need-returns
-returns c =
-    let d = c .before .before .before in
-    let line = d .before .before .args .line .now in
-    permission-role-is role.Bad (drop 1 line) bad role.Read (number-unspaced line 1 (d .field-at .result) (d .field-at .ensures) lastPermission (sym (c .enum-told .given .1) ∙ c .before .before .read-number .ensures))
+returns c = permission-role-is role.Bad _ _ role.Read (number-unspaced (c .before .before .before .before .before .args .line .now) 1 (c .before .before .before .field-at .result) (c .before .before .before .field-at .ensures) _ (sym (c .enum-told .given .1) ∙ c .before .before .read-number .ensures))
 
 returns-2 : tie.Need-returns-2
 returns-2 c =
     let d = c .before .before .before in
-    of-number role.Bad (role.Read (permission-of d)) lastRole (drop (next-of d) (line-of d)) (sym (c .enum-told2 .given .1) ∙ c .before .before .last-number .ensures) ∙ behind d
+    of-number role.Bad (role.Read (permission-of d)) _ _ (sym (c .enum-told2 .given .1) ∙ c .before .before .last-number .ensures) ∙ behind d
 
 cast-t8 : tie.Need-cast-t8
 cast-t8 c = let p = permission-read (c .before .before .before .before) in omega arith
@@ -50,7 +46,7 @@ cast-t8 c = let p = permission-read (c .before .before .before .before) in omega
 returns-3 : tie.Need-returns-3
 returns-3 c =
     let d = c .before .before .before .before in
-    of-number role.Bad (role.Read (permission-of d)) lastRole (drop (next-of d) (line-of d)) (sym (c .before .role .given .1) ∙ c .before .before .before .last-number .ensures) ∙ behind d
+    of-number role.Bad (role.Read (permission-of d)) _ _ (sym (c .before .role .given .1) ∙ c .before .before .before .last-number .ensures) ∙ behind d
 
 pub permission-role-spec : {M : Type 1} → statement M
 permission-role-spec = tie.close (tie.spec (λ c κs. search needs) (λ c κs. search needs) (λ c. search needs) (λ c. search needs) returns (λ c κs. search needs) (λ c. search needs) (λ c. search needs) returns-2 cast-t8 returns-3)

@@ -6,7 +6,7 @@ use Prim.Native.Nat.{ℕ, _≤_}
 use native.Mathlib.Omega.{arith}
 use lib.Arith.{lt-of-le-ne}
 use lib.ListN.{length, drop}
-use Rattle.text.specs.Number.{found, bad, readNumber}
+use Rattle.text.specs.Number.{found, readNumber}
 use Rattle.requests.specs.Fields.{lastPermission, fieldOf, lastSet, permissionSet}
 use Rattle.requests.specs.declared.PermissionSet.the-variants as set
 use Rattle.requests.proofs.FieldLaws.{number-spaced, number-unspaced, set-spaced, set-unspaced, ended-there, ended-later, set-is, permission-set-is}
@@ -32,41 +32,29 @@ behind : (c : tie.After-known-told) → lastSet set.Bad (set.Read (permission-of
 behind c = permission-set-is set.Bad (drop 1 (line-of c)) (found (permission-of c) (drop (next-of c) (line-of c))) set.Read (permission-read c .0)
 
 returns : tie.Need-returns
-returns c =
-    let d = c .before .before .before in
-    let line = d .before .before .args .line .now in
-    permission-set-is set.Bad (drop 1 line) bad set.Read (number-unspaced line 1 (d .field-at .result) (d .field-at .ensures) lastPermission (sym (c .enum-told .given .1) ∙ c .before .before .read-number .ensures))
+returns c = permission-set-is set.Bad _ _ set.Read (number-unspaced (c .before .before .before .before .before .args .line .now) 1 (c .before .before .before .field-at .result) (c .before .before .before .field-at .ensures) _ (sym (c .enum-told .given .1) ∙ c .before .before .read-number .ensures))
 
 returns-2 : tie.Need-returns-2
 returns-2 c =
     let f = c .before .before .before in
-    let d = f .before in
-    set-is set.Bad (drop (next-of d) (line-of d)) bad (set.Read (permission-of d)) (set-unspaced (line-of d) (next-of d) (f .field-at2 .result) (f .field-at2 .ensures) (sym (c .enum-told2 .given .1) ∙ c .before .before .read-set .ensures)) ∙ behind d
+    set-is set.Bad _ _ (set.Read (permission-of (f .before))) (set-unspaced (line-of (f .before)) (next-of (f .before)) (f .field-at2 .result) (f .field-at2 .ensures) (sym (c .enum-told2 .given .1) ∙ c .before .before .read-set .ensures)) ∙ behind (f .before)
 
 cast-t11 : tie.Need-cast-t11
 cast-t11 c = let p = permission-read (c .before .before .before .before .before .before) in omega arith
 
+-- the line ends behind the set
 returns-3 : tie.Need-returns-3
 returns-3 c =
     let f = c .before .before .before .before .before in
-    let d = f .before in
-    let s = c .before .before .set .given .0 .0 in
-    let n = c .before .before .set .given .0 .1 .0 in
-    let t = set-spaced (line-of d) (next-of d) (f .field-at2 .result) (f .field-at2 .ensures) s n (sym (c .before .before .set .given .1) ∙ c .before .before .before .before .read-set .ensures) in
-    ended-there set.Bad (set.Read (permission-of d) s) (line-of d) n (omega arith)
-    ∙ set-is set.Bad (drop (next-of d) (line-of d)) (found (s .bits) (drop n (line-of d))) (set.Read (permission-of d)) (t .0)
-    ∙ behind d
+    let t = set-spaced (line-of (f .before)) (next-of (f .before)) (f .field-at2 .result) (f .field-at2 .ensures) _ _ (sym (c .before .before .set .given .1) ∙ c .before .before .before .before .read-set .ensures) in
+    ended-there set.Bad _ (line-of (f .before)) (c .before .before .set .given .0 .1 .0) (omega arith) ∙ set-is set.Bad _ _ (set.Read (permission-of (f .before))) (t .0) ∙ behind (f .before)
 
+-- bytes come behind the set
 returns-4 : tie.Need-returns-4
 returns-4 c =
     let f = c .before .before .before .before .before in
-    let d = f .before in
-    let s = c .before .before .set .given .0 .0 in
-    let n = c .before .before .set .given .0 .1 .0 in
-    let t = set-spaced (line-of d) (next-of d) (f .field-at2 .result) (f .field-at2 .ensures) s n (sym (c .before .before .set .given .1) ∙ c .before .before .before .before .read-set .ensures) in
-    ended-later set.Bad (set.Read (permission-of d) s) (line-of d) n (lt-of-le-ne (t .1) (c .if1 .left))
-    ∙ set-is set.Bad (drop (next-of d) (line-of d)) (found (s .bits) (drop n (line-of d))) (set.Read (permission-of d)) (t .0)
-    ∙ behind d
+    let t = set-spaced (line-of (f .before)) (next-of (f .before)) (f .field-at2 .result) (f .field-at2 .ensures) _ _ (sym (c .before .before .set .given .1) ∙ c .before .before .before .before .read-set .ensures) in
+    ended-later set.Bad (set.Read _ _) (line-of (f .before)) _ (lt-of-le-ne (t .1) (c .if1 .left)) ∙ set-is set.Bad _ _ (set.Read (permission-of (f .before))) (t .0) ∙ behind (f .before)
 
 pub permission-set-spec : {M : Type 1} → statement M
 permission-set-spec = tie.close (tie.spec (λ c κs. search needs) (λ c κs. search needs) (λ c. search needs) (λ c. search needs) returns (λ c κs. search needs) (λ c κs. search needs) (λ c. search needs) (λ c. search needs) returns-2 cast-t11 returns-3 returns-4)
