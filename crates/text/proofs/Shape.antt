@@ -12,7 +12,7 @@ use Rattle.text.specs.Ascii.{digitZero, comma, minus, Lacks}
 use Rattle.text.specs.Number.{numberText, isDigit}
 use Rattle.text.specs.Set.{mostRoles, rolesOf, roleText, rolesText, setText}
 use Rattle.text.proofs.NumberLaws.{text-small, text-step, digit-yes}
-use Rattle.text.proofs.SetLaws.{From, roles-from}
+use Rattle.text.proofs.RoleLists.{From, roles-from}
 
 -- ---- lengths
 

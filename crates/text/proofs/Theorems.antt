@@ -8,9 +8,9 @@ use native.Mathlib.Omega.{arith}
 use lib.ListN.{length}
 use Rattle.text.specs.Ascii.{space, lf, Lacks}
 use Rattle.text.specs.Number.{numberText, found, isDigit, digitNext, readNumber}
-use Rattle.text.specs.Set.{setText, readSet}
+use Rattle.text.specs.Set.{setText, readSet, Ends}
 use Rattle.text.proofs.NumberLaws.{number-back, number-only}
-use Rattle.text.proofs.SetLaws.{Ends, set-back, set-only}
+use Rattle.text.proofs.SetLaws.{set-back, set-only}
 use Rattle.text.proofs.Shape.{length-number, length-set-text, number-lacks, set-lacks}
 
 -- a text reads as the number v exactly when it is the text of v, within the limit, and no digit follows

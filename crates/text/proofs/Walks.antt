@@ -129,14 +129,13 @@ module _ {line : List ℕ} {at s low i : ℕ} (l : RolesLeft line at s low i) wh
     roles-fall h = sym (roles-low (l .turns) s low r (drop i line) (drop n line) (t .reads) h) ∙ l .same
 
     -- what is left behind a role, with one turn less
-    Passed : ℕ → Type 0
+    abbrev Passed : ℕ → Type 0
     Passed k =
         (mostRoles ≤ k + (r + 1))
         × (cond (nextIs comma (drop n line)) (readRoles k (joined s (single r)) (suc r) (drop 1 (drop n line))) (found (joined s (single r)) (drop n line))
         ≡ readRoles mostRoles 0 0 (drop at line))
 
     role-passed : low ≤ r → (k : ℕ) × Passed k
-    unfolding Passed
     role-passed h = go (l .turns) (l .enough) (l .same)
       where
         go : (k : ℕ) → mostRoles ≤ k + low → readRoles k s low (drop i line) ≡ readRoles mostRoles 0 0 (drop at line) → (k : ℕ) × Passed k
@@ -144,11 +143,9 @@ module _ {line : List ℕ} {at s low i : ℕ} (l : RolesLeft line at s low i) wh
         go (suc k) m q = (k, (omega arith, sym (roles-step k s low r (drop i line) (drop n line) (t .reads) h) ∙ q))
 
     pub roles-end : low ≤ r → nextIs comma (drop n line) ≡ false → found (joined s (single r)) (drop n line) ≡ readRoles mostRoles 0 0 (drop at line)
-    unfolding Passed
     roles-end h e = rw e at (role-passed h .1 .1)
 
     pub roles-comma : low ≤ r → nextIs comma (drop n line) ≡ true → RolesLeft line at (joined s (single r)) (r + 1) (n + 1)
-    unfolding Passed
     roles-comma h e = let p = role-passed h in record {
       turns = p .0;
       enough = p .1 .0;

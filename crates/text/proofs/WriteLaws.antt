@@ -27,6 +27,9 @@ sets-append (a ∷ t) u d at =
 pub wrote-one : (d : List ℕ) (at c : ℕ) → Wrote d at (c ∷ []) (set d at c) (at + 1)
 wrote-one d at c = record { bytes = refl; next = refl }
 
+pub wrote-two : (d : List ℕ) (at b c : ℕ) → Wrote d at (b ∷ c ∷ []) (set (set d at b) (at + 1) c) (at + 2)
+wrote-two d at b c = record { bytes = rw (add-one at) refl; next = refl }
+
 module _ {d : List ℕ} {at : ℕ} {t e : List ℕ} {p : ℕ} where
   pub wrote-length : Wrote d at t e p → length e ≡ length d
   wrote-length w = ap length (w .bytes) ∙ length-sets d at t

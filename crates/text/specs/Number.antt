@@ -14,7 +14,7 @@ use lib.Dec.{ltb, leb, eqb}
 use lib.ListN.{drop}
 use Rattle.text.specs.Ascii.{digitZero, digitNine}
 
--- the text of n, in which at most k digits stand before the last
+-- the text of n, where at most k digits stand before its last; k = n is always enough
 unfoldable pub digits : ℕ → ℕ → List ℕ
 digits zero n = (digitZero + n) ∷ []
 digits (suc k) n = cond (ltb n 10) ((digitZero + n) ∷ []) (digits k (n / 10) ++ ((digitZero + n % 10) ∷ []))

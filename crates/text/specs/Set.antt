@@ -7,6 +7,8 @@
 --     setText s               the text of s
 --     readRoles k s low t     at most k roles from `low` on that t begins with, ascending, beside those of s
 --     readSet t               the set that t begins with
+--     Ends t                  neither a digit nor a comma comes next, so a set ends before t
+use mathlib.Core.Path.{_≡_}
 use mathlib.Core.Bool.{Bool, true, false, cond}
 use mathlib.Core.List.{List, [], _∷_, _++_}
 use Prim.Native.Nat.{ℕ, zero, suc}
@@ -14,7 +16,7 @@ use lib.Dec.{ltb, eqb}
 use lib.ListN.{drop}
 use Rattle.roles.specs.Sets.{has, single, joined}
 use Rattle.text.specs.Ascii.{comma, minus}
-use Rattle.text.specs.Number.{numberText, Got, found, bad, nextIs, readNumber}
+use Rattle.text.specs.Number.{numberText, Got, found, bad, digitNext, nextIs, readNumber}
 
 abbrev pub lastRole : ℕ
 lastRole = 63
@@ -51,3 +53,7 @@ readRoles (suc k) s low t = readRole (readRoles k) s low (readNumber lastRole t)
 
 unfoldable pub readSet : List ℕ → Got
 readSet t = cond (nextIs minus t) (found 0 (drop 1 t)) (readRoles mostRoles 0 0 t)
+
+pub record Ends (t : List ℕ) : Type 0 where
+  pub digit : digitNext t ≡ false
+  pub comma : nextIs comma t ≡ false
