@@ -16,7 +16,7 @@ use Rattle.text.specs.declared.NumberField.the-variants as number
 use Rattle.text.specs.declared.SetField.the-variants as set
 use Rattle.text.proofs.NumberLaws.{next-is, bad≢found, number-back, number-only}
 use Rattle.text.proofs.SetLaws.{set-back, set-only}
-use Rattle.text.proofs.Walks.{next-cons, number-read, number-bad, set-read, set-bad}
+use Rattle.text.proofs.Walks.{next-cons, number-read, set-read}
 use Rattle.requests.specs.Fields.{lastPermission, fieldOf, got, ended, lastNumber, lastSet, permissionSet, permissionRole}
 use Rattle.requests.specs.Request.{spaced, spacedSet}
 
@@ -112,20 +112,29 @@ module _ (line : List ℕ) (at : ℕ) where
   unfolding fieldOf
   field-none e = rw e (drop-of-length-le line {i = length line} (omega arith))
 
--- what the code's answers say of the bytes, read at the place of the field
-module _ (line : List ℕ) (at place : ℕ) (there : drop place line ≡ fieldOf (drop at line)) where
-  pub number-spaced : (limit v n : ℕ) → number.Read v n ≡ numberField line (readNumber limit (drop place line))
+  field-place : (place : ℕ) × (drop place line ≡ fieldOf (drop at line))
+  field-place = go (nextIs space (drop at line)) refl
+    where
+      go : (b : Bool) → nextIs space (drop at line) ≡ b → (place : ℕ) × (drop place line ≡ fieldOf (drop at line))
+      go true e = (at + 1, field-there e)
+      go false e = (length line, field-none e)
+
+  -- what the code's answers say of the bytes
+  pub number-spaced : (limit v n : ℕ) → number.Read v n ≡ numberField line (readNumber limit (fieldOf (drop at line)))
       → (readNumber limit (fieldOf (drop at line)) ≡ found v (drop n line)) × (v ≤ limit) × (n ≤ length line)
-  number-spaced limit v n q = let t = number-read limit line place v n q in (rw (← there) (t .reads), t .small, t .inside)
+  number-spaced limit v n q =
+      let p = field-place in
+      let e : drop (p .0) line ≡ fieldOf (drop at line) = p .1 in
+      let t = number-read limit line (p .0) v n (rw e q) in
+      (rw (← e) (t .reads), t .small, t .inside)
 
-  pub number-unspaced : (limit : ℕ) → number.Bad ≡ numberField line (readNumber limit (drop place line)) → readNumber limit (fieldOf (drop at line)) ≡ bad
-  number-unspaced limit q = rw (← there) (number-bad line (readNumber limit (drop place line)) q)
-
-  pub set-spaced : (s : RoleSet) (n : ℕ) → set.Read s n ≡ setField line (readSet (drop place line)) → (readSet (fieldOf (drop at line)) ≡ found (s .bits) (drop n line)) × (n ≤ length line)
-  set-spaced s n q = let t = set-read line place s n q in (rw (← there) (t .reads), t .inside)
-
-  pub set-unspaced : set.Bad ≡ setField line (readSet (drop place line)) → readSet (fieldOf (drop at line)) ≡ bad
-  set-unspaced q = rw (← there) (set-bad line (readSet (drop place line)) q)
+  pub set-spaced : (s : RoleSet) (n : ℕ) → set.Read s n ≡ setField line (readSet (fieldOf (drop at line)))
+      → (readSet (fieldOf (drop at line)) ≡ found (s .bits) (drop n line)) × (n ≤ length line)
+  set-spaced s n q =
+      let p = field-place in
+      let e : drop (p .0) line ≡ fieldOf (drop at line) = p .1 in
+      let t = set-read line (p .0) s n (rw e q) in
+      (rw (← e) (t .reads), t .inside)
 
 module _ {A : Type 0} (other a : A) (line : List ℕ) (n : ℕ) where
   pub ended-there : length line ≤ n → a ≡ ended other a (drop n line)

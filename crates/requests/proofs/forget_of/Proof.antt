@@ -12,12 +12,9 @@ returns : tie.Need-returns
 unfolding byLetter
 returns c = of-number Unreadable Forget _ _ (sym (c .enum-told .given .1) ∙ c .before .before .last-number .ensures)
 
-cast-t4 : tie.Need-cast-t4
-cast-t4 c = omega (arith, number-small _ _ _ (sym (c .before .p .given .1) ∙ c .before .before .before .last-number .ensures))
-
 returns-2 : tie.Need-returns-2
 unfolding byLetter
 returns-2 c = of-number Unreadable Forget _ _ (sym (c .before .p .given .1) ∙ c .before .before .before .last-number .ensures)
 
 pub forget-of-spec : {M : Type 1} → statement M
-forget-of-spec = tie.close (tie.spec (λ c κs. search needs) (λ c. search needs) (λ c. search needs) returns cast-t4 returns-2)
+forget-of-spec = tie.close (tie.spec (λ c κs. search needs) (λ c. search needs) (λ c. search needs) returns (λ c. omega (arith, number-small _ _ _ (sym (c .before .p .given .1) ∙ c .before .before .before .last-number .ensures))) returns-2)
