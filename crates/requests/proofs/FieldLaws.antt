@@ -5,7 +5,6 @@ use mathlib.Core.List.{List, [], _∷_, _++_, append-nil}
 use mathlib.Core.Logic.{_≢_}
 use Prim.Native.Nat.{ℕ, _+_, _^_, _≤_, _<_}
 use native.Mathlib.Omega.{arith}
-use lib.Arith.{lt-of-le-ne}
 use lib.ListN.{length, drop, drop-of-length-le}
 use lib.Seq.{drop-drop}
 use Rattle.roles.specs.declared.RoleSet.{RoleSet}
@@ -17,7 +16,7 @@ use Rattle.text.specs.declared.NumberField.the-variants as number
 use Rattle.text.specs.declared.SetField.the-variants as set
 use Rattle.text.proofs.NumberLaws.{next-is, bad≢found, number-back, number-only}
 use Rattle.text.proofs.SetLaws.{set-back, set-only}
-use Rattle.text.proofs.Walks.{next-cons, number-read, number-bad, set-read, set-bad}
+use Rattle.text.proofs.Walks.{next-cons, number-read, set-read}
 use Rattle.requests.specs.Fields.{lastPermission, fieldOf, got, ended, lastNumber, lastSet, permissionSet, permissionRole}
 use Rattle.requests.specs.Request.{spaced, spacedSet}
 
@@ -79,28 +78,28 @@ module _ {A : Type 0} (other : A) (P : A → Type 0) (none : P other) where
   pub number-last-only : (k : ℕ → A) (limit : ℕ) (t : List ℕ) → ((v : ℕ) → t ≡ spaced v → v ≤ limit → P (k v)) → P (lastNumber other k limit t)
   unfolding lastNumber
   number-last-only k limit t f = got-only (λ v u. ended other (k v) u) (readNumber limit (fieldOf t)) (λ v u e.
-    let p = spaced-number-only limit t v u e in
-    ended-only (k v) u (λ n. f v (p .0 ∙ rw n (append-nil (spaced v))) (p .1)))
+      let p = spaced-number-only limit t v u e in
+      ended-only (k v) u (λ n. f v (p .0 ∙ rw n (append-nil (spaced v))) (p .1)))
 
   pub set-last-only : (k : RoleSet → A) (t : List ℕ) → ((s : RoleSet) → t ≡ spacedSet s → s .bits < 2 ^ mostRoles → P (k s)) → P (lastSet other k t)
   unfolding lastSet
   set-last-only k t f = got-only (λ s u. ended other (k (record { bits = s })) u) (readSet (fieldOf t)) (λ s u e.
-    let p = spaced-set-only t s u e in
-    ended-only (k (record { bits = s })) u (λ n. f (record { bits = s }) (p .0 ∙ rw n (append-nil (space ∷ setText s))) (p .1)))
+      let p = spaced-set-only t s u e in
+      ended-only (k (record { bits = s })) u (λ n. f (record { bits = s }) (p .0 ∙ rw n (append-nil (space ∷ setText s))) (p .1)))
 
   pub permission-set-only : (k : ℕ → RoleSet → A) (t : List ℕ)
       → ((p : ℕ) (s : RoleSet) → t ≡ spaced p ++ spacedSet s → p ≤ lastPermission → s .bits < 2 ^ mostRoles → P (k p s)) → P (permissionSet other k t)
   unfolding permissionSet
   permission-set-only k t f = got-only (λ p u. lastSet other (k p) u) (readNumber lastPermission (fieldOf t)) (λ p u e.
-    let q = spaced-number-only lastPermission t p u e in
-    set-last-only (k p) u (λ s n b. f p s (q .0 ∙ ap (λ (x : List ℕ). spaced p ++ x) n) (q .1) b))
+      let q = spaced-number-only lastPermission t p u e in
+      set-last-only (k p) u (λ s n b. f p s (q .0 ∙ ap (λ (x : List ℕ). spaced p ++ x) n) (q .1) b))
 
   pub permission-role-only : (k : ℕ → ℕ → A) (t : List ℕ)
       → ((p r : ℕ) → t ≡ spaced p ++ spaced r → p ≤ lastPermission → r ≤ lastRole → P (k p r)) → P (permissionRole other k t)
   unfolding permissionRole
   permission-role-only k t f = got-only (λ p u. lastNumber other (k p) lastRole u) (readNumber lastPermission (fieldOf t)) (λ p u e.
-    let q = spaced-number-only lastPermission t p u e in
-    number-last-only (k p) lastRole u (λ r n b. f p r (q .0 ∙ ap (λ (x : List ℕ). spaced p ++ x) n) (q .1) b))
+      let q = spaced-number-only lastPermission t p u e in
+      number-last-only (k p) lastRole u (λ r n b. f p r (q .0 ∙ ap (λ (x : List ℕ). spaced p ++ x) n) (q .1) b))
 
 -- ---- how the code goes along a line
 
@@ -113,20 +112,29 @@ module _ (line : List ℕ) (at : ℕ) where
   unfolding fieldOf
   field-none e = rw e (drop-of-length-le line {i = length line} (omega arith))
 
--- what the code's answers say of the bytes, read at the place of the field
-module _ (line : List ℕ) (at place : ℕ) (there : drop place line ≡ fieldOf (drop at line)) where
-  pub number-spaced : (limit v n : ℕ) → number.Read v n ≡ numberField line (readNumber limit (drop place line))
+  field-place : (place : ℕ) × (drop place line ≡ fieldOf (drop at line))
+  field-place = go (nextIs space (drop at line)) refl
+    where
+      go : (b : Bool) → nextIs space (drop at line) ≡ b → (place : ℕ) × (drop place line ≡ fieldOf (drop at line))
+      go true e = (at + 1, field-there e)
+      go false e = (length line, field-none e)
+
+  -- what the code's answers say of the bytes
+  pub number-spaced : (limit v n : ℕ) → number.Read v n ≡ numberField line (readNumber limit (fieldOf (drop at line)))
       → (readNumber limit (fieldOf (drop at line)) ≡ found v (drop n line)) × (v ≤ limit) × (n ≤ length line)
-  number-spaced limit v n q = let t = number-read limit line place v n q in (rw (← there) (t .reads), t .small, t .inside)
+  number-spaced limit v n q =
+      let p = field-place in
+      let e : drop (p .0) line ≡ fieldOf (drop at line) = p .1 in
+      let t = number-read limit line (p .0) v n (rw e q) in
+      (rw (← e) (t .reads), t .small, t .inside)
 
-  pub number-unspaced : (limit : ℕ) → number.Bad ≡ numberField line (readNumber limit (drop place line)) → readNumber limit (fieldOf (drop at line)) ≡ bad
-  number-unspaced limit q = rw (← there) (number-bad line (readNumber limit (drop place line)) q)
-
-  pub set-spaced : (s : RoleSet) (n : ℕ) → set.Read s n ≡ setField line (readSet (drop place line)) → (readSet (fieldOf (drop at line)) ≡ found (s .bits) (drop n line)) × (n ≤ length line)
-  set-spaced s n q = let t = set-read line place s n q in (rw (← there) (t .reads), t .inside)
-
-  pub set-unspaced : set.Bad ≡ setField line (readSet (drop place line)) → readSet (fieldOf (drop at line)) ≡ bad
-  set-unspaced q = rw (← there) (set-bad line (readSet (drop place line)) q)
+  pub set-spaced : (s : RoleSet) (n : ℕ) → set.Read s n ≡ setField line (readSet (fieldOf (drop at line)))
+      → (readSet (fieldOf (drop at line)) ≡ found (s .bits) (drop n line)) × (n ≤ length line)
+  set-spaced s n q =
+      let p = field-place in
+      let e : drop (p .0) line ≡ fieldOf (drop at line) = p .1 in
+      let t = set-read line (p .0) s n (rw e q) in
+      (rw (← e) (t .reads), t .inside)
 
 module _ {A : Type 0} (other a : A) (line : List ℕ) (n : ℕ) where
   pub ended-there : length line ≤ n → a ≡ ended other a (drop n line)

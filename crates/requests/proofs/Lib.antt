@@ -2,4 +2,5 @@
 pub mod FieldLaws
 pub mod RequestLaws
 pub mod Made
+pub mod Readings
 pub mod Theorems

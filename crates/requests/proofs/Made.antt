@@ -26,14 +26,14 @@ module _ {A : Type 0} (other : A) where
   ofRole k (role.Read p r) = k p r
   ofRole k role.Bad = other
 
-  pub of-number : (k : ℕ → A) (limit : ℕ) (t : List ℕ) (f : LastNumber) → f ≡ lastNumber number.Bad number.Value limit t → ofNumber k f ≡ lastNumber other k limit t
-  of-number k limit t f e = ap (ofNumber k) e ∙ number-map (ofNumber k) number.Bad number.Value limit t
+  pub of-number : (k : ℕ → A) (limit : ℕ) (t : List ℕ) {f : LastNumber} → f ≡ lastNumber number.Bad number.Value limit t → ofNumber k f ≡ lastNumber other k limit t
+  of-number k limit t e = ap (ofNumber k) e ∙ number-map (ofNumber k) number.Bad number.Value limit t
 
-  pub of-set : (k : ℕ → RoleSet → A) (t : List ℕ) (f : PermissionSet) → f ≡ permissionSet set.Bad set.Read t → ofSet k f ≡ permissionSet other k t
-  of-set k t f e = ap (ofSet k) e ∙ permission-set-map (ofSet k) set.Bad set.Read t
+  pub of-set : (k : ℕ → RoleSet → A) (t : List ℕ) {f : PermissionSet} → f ≡ permissionSet set.Bad set.Read t → ofSet k f ≡ permissionSet other k t
+  of-set k t e = ap (ofSet k) e ∙ permission-set-map (ofSet k) set.Bad set.Read t
 
-  pub of-role : (k : ℕ → ℕ → A) (t : List ℕ) (f : PermissionRole) → f ≡ permissionRole role.Bad role.Read t → ofRole k f ≡ permissionRole other k t
-  of-role k t f e = ap (ofRole k) e ∙ permission-role-map (ofRole k) role.Bad role.Read t
+  pub of-role : (k : ℕ → ℕ → A) (t : List ℕ) {f : PermissionRole} → f ≡ permissionRole role.Bad role.Read t → ofRole k f ≡ permissionRole other k t
+  of-role k t e = ap (ofRole k) e ∙ permission-role-map (ofRole k) role.Bad role.Read t
 
 -- a number that was read is at most its limit
 pub number-small : (limit : ℕ) (t : List ℕ) (v : ℕ) → number.Value v ≡ lastNumber number.Bad number.Value limit t → v ≤ limit

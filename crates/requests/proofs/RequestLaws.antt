@@ -1,17 +1,23 @@
 -- Requests: what was printed reads back, and nothing else is read. Assumes nothing.
-use mathlib.Core.Path.{_≡_, refl, sym, ap, _∙_, subst}
+use mathlib.Core.Path.{_≡_, refl, sym}
 use mathlib.Core.Bool.{Bool, true, false, cond}
 use mathlib.Core.List.{List, [], _∷_, _++_}
 use mathlib.Core.Logic.{_≢_, _⊎_, inl, inr}
-use Prim.Native.Nat.{ℕ, _≤_}
+use Prim.Native.Nat.{ℕ, _≤_, _<_}
 use native.Mathlib.Omega.{arith}
 use borrow.Author.Tests.{eqb-true, ne-eqb}
 use lib.Dec.{eqb}
-use lib.ListN.{length, drop, getD}
+use lib.ListN.{length, drop, getD, length-append}
+use Rattle.roles.specs.declared.RoleSet.{RoleSet}
 use Rattle.meaning.specs.declared.Happening.{Happening}
 use Rattle.meaning.specs.declared.Happening.the-variants.{Allow, Deny, Given, Withdrawn}
+use Rattle.text.specs.Ascii.{space, lf, Lacks}
+use Rattle.text.specs.Number.{numberText}
+use Rattle.text.specs.Set.{lastRole}
+use Rattle.text.proofs.Shape.{lacks-append}
+use Rattle.text.proofs.Theorems.{number32-length, set-length, number-lacks-lf, set-lacks-lf}
 use Rattle.requests.specs.Fields.{lastCount, lastPermission}
-use Rattle.requests.specs.Request.{letterO, letterA, letterD, letterG, letterR, letterQ, letterF, letterS, eventText, requestText, HappeningInRange, InRange, told, byLetter, requestOf}
+use Rattle.requests.specs.Request.{letterO, letterA, letterD, letterG, letterR, letterQ, letterF, letterS, spaced, spacedSet, eventText, requestText, HappeningInRange, InRange, told, byLetter, requestOf}
 use Rattle.requests.specs.declared.Request.{Request}
 use Rattle.requests.specs.declared.Request.the-variants.{Open, Told, Decide, Forget, Show, Unreadable}
 use Rattle.requests.proofs.FieldLaws.{number-last-back, permission-set-back, permission-role-back, ended-only, number-last-only, permission-set-only, permission-role-only}
@@ -78,3 +84,57 @@ pub no-letter : (c : ℕ) (t : List ℕ) → c ≢ letterO → c ≢ letterA →
 unfolding byLetter
 no-letter c t o a d g r q f s =
     sym (rw (ne-eqb c letterO o, ne-eqb c letterA a, ne-eqb c letterD d, ne-eqb c letterG g, ne-eqb c letterR r, ne-eqb c letterQ q, ne-eqb c letterF f, ne-eqb c letterS s) refl)
+
+-- ---- the shape of texts
+
+-- a letter and a permission, and then a set or a role
+with-set-length : (c p : ℕ) (s : RoleSet) → p ≤ lastPermission → length (c ∷ (spaced p ++ spacedSet s)) ≤ 200
+with-set-length c p s h = let a = number32-length p (omega arith) in let b = set-length (s .bits) in omega (arith, length-append (numberText p) (spacedSet s))
+
+with-role-length : (c p r : ℕ) → p ≤ lastPermission → r ≤ lastRole → length (c ∷ (spaced p ++ spaced r)) ≤ 200
+with-role-length c p r h k = let a = number32-length p (omega arith) in let b = number32-length r (omega arith) in omega (arith, length-append (numberText p) (spaced r))
+
+event-length : (p : ℕ) (h : Happening) → p ≤ lastPermission → HappeningInRange h → length (eventText p h) ≤ 200
+unfolding eventText
+event-length p (Allow s) k w = with-set-length letterA p s k
+event-length p (Deny s) k w = with-set-length letterD p s k
+event-length p (Given r) k w = with-role-length letterG p r k w
+event-length p (Withdrawn r) k w = with-role-length letterR p r k w
+
+pub request-length : (q : Request) → InRange q → length (requestText q) ≤ 200
+unfolding requestText
+request-length (Open n) h = let a = number32-length n (omega arith) in omega arith
+request-length (Told e) h = event-length (e .permission) (e .happening) (h .0) (h .1)
+request-length (Decide p s) h = with-set-length letterQ p s (h .0)
+request-length (Forget p) h = let a = number32-length p (omega arith) in omega arith
+request-length Show h = omega arith
+request-length Unreadable h = absurd h
+
+-- a letter is no LF, and neither is a space
+no-lf : (c : ℕ) → lf < c → c ≢ lf
+no-lf c h e = omega arith
+
+spaced-nolf : (v : ℕ) → Lacks lf (spaced v)
+spaced-nolf v = (no-lf space (omega arith), number-lacks-lf v)
+
+with-set-nolf : (c p : ℕ) (s : RoleSet) → lf < c → Lacks lf (c ∷ (spaced p ++ spacedSet s))
+with-set-nolf c p s h = (no-lf c h, lacks-append lf (spaced p) (spacedSet s) (spaced-nolf p) (no-lf space (omega arith), set-lacks-lf (s .bits)))
+
+with-role-nolf : (c p r : ℕ) → lf < c → Lacks lf (c ∷ (spaced p ++ spaced r))
+with-role-nolf c p r h = (no-lf c h, lacks-append lf (spaced p) (spaced r) (spaced-nolf p) (spaced-nolf r))
+
+event-nolf : (p : ℕ) (h : Happening) → Lacks lf (eventText p h)
+unfolding eventText
+event-nolf p (Allow s) = with-set-nolf letterA p s (omega arith)
+event-nolf p (Deny s) = with-set-nolf letterD p s (omega arith)
+event-nolf p (Given r) = with-role-nolf letterG p r (omega arith)
+event-nolf p (Withdrawn r) = with-role-nolf letterR p r (omega arith)
+
+pub request-nolf : (q : Request) → Lacks lf (requestText q)
+unfolding requestText
+request-nolf (Open n) = (no-lf letterO (omega arith), spaced-nolf n)
+request-nolf (Told e) = event-nolf (e .permission) (e .happening)
+request-nolf (Decide p s) = with-set-nolf letterQ p s (omega arith)
+request-nolf (Forget p) = (no-lf letterF (omega arith), spaced-nolf p)
+request-nolf Show = (no-lf letterS (omega arith), tt)
+request-nolf Unreadable = tt

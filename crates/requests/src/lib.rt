@@ -7,14 +7,19 @@ use text::SetField;
 ghost use mathlib.Core.Path.{_≡_};
 ghost use Prim.Native.Nat.{_^_, _<_};
 ghost use lib.ListN.{drop};
+ghost use Rattle.text.specs.Number.{readNumber};
+ghost use Rattle.text.specs.Set.{readSet};
+ghost use Rattle.text.specs.Field.{numberField, setField};
 ghost use Rattle.requests.specs.Fields.{fieldOf, lastNumber, permissionSet, permissionRole};
 ghost use Rattle.requests.specs.Request.{letterO, letterA, letterD, letterG, letterR, letterQ, letterF, letterS, byLetter, requestOf};
 
-// The largest role count, permission and role that a line can say.
+// The largest role count that a line can say.
 const LAST_COUNT: u64 = 255;
 
+// The largest permission.
 const LAST_PERMISSION: u64 = 4294967295;
 
+// The largest role.
 const LAST_ROLE: u64 = 63;
 
 // What a line asks for.
@@ -56,13 +61,27 @@ fn field_at(line: &[u8], at: usize) -> usize
     }
 }
 
+// A number of at most the limit, behind the space at the place `at`.
+fn number_field(line: &[u8], at: usize, limit: u64) -> NumberField
+    requires { ⌜ limit < 2 ^ 32 ⌝ }
+    ensures { λ r. ⌜ r ≡ numberField (now (line .entry)) (readNumber limit (fieldOf (drop at (now (line .entry))))) ⌝ }
+{
+    text::read_number(line, field_at(line, at), limit)
+}
+
+// A set, behind the space at the place `at`.
+fn set_field(line: &[u8], at: usize) -> SetField
+    ensures { λ r. ⌜ r ≡ setField (now (line .entry)) (readSet (fieldOf (drop at (now (line .entry))))) ⌝ }
+{
+    text::read_set(line, field_at(line, at))
+}
+
 // A number of at most the limit, from the space at the place `at` to the end of the line.
 fn last_number(line: &[u8], at: usize, limit: u64) -> LastNumber
     requires { ⌜ limit < 2 ^ 32 ⌝ }
     ensures { λ r. ⌜ r ≡ lastNumber LastNumber.Bad LastNumber.Value limit (drop at (now (line .entry))) ⌝ }
 {
-    let NumberField::Read { value, next } = text::read_number(line, field_at(line, at), limit)
-    else {
+    let NumberField::Read { value, next } = number_field(line, at, limit) else {
         return LastNumber::Bad;
     };
     if next == line.len() {
@@ -76,14 +95,10 @@ fn last_number(line: &[u8], at: usize, limit: u64) -> LastNumber
 fn permission_set(line: &[u8]) -> PermissionSet
     ensures { λ r. ⌜ r ≡ permissionSet PermissionSet.Bad PermissionSet.Read (drop 1 (now (line .entry))) ⌝ }
 {
-    let NumberField::Read { value, next } = text::read_number(
-        line,
-        field_at(line, 1),
-        LAST_PERMISSION,
-    ) else {
+    let NumberField::Read { value, next } = number_field(line, 1, LAST_PERMISSION) else {
         return PermissionSet::Bad;
     };
-    let SetField::Read { set, next: end } = text::read_set(line, field_at(line, next)) else {
+    let SetField::Read { set, next: end } = set_field(line, next) else {
         return PermissionSet::Bad;
     };
     if end == line.len() {
@@ -100,11 +115,7 @@ fn permission_set(line: &[u8]) -> PermissionSet
 fn permission_role(line: &[u8]) -> PermissionRole
     ensures { λ r. ⌜ r ≡ permissionRole PermissionRole.Bad PermissionRole.Read (drop 1 (now (line .entry))) ⌝ }
 {
-    let NumberField::Read { value, next } = text::read_number(
-        line,
-        field_at(line, 1),
-        LAST_PERMISSION,
-    ) else {
+    let NumberField::Read { value, next } = number_field(line, 1, LAST_PERMISSION) else {
         return PermissionRole::Bad;
     };
     let LastNumber::Value(role) = last_number(line, next, LAST_ROLE) else {

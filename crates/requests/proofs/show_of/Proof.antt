@@ -1,6 +1,4 @@
 -- `requests::show_of` meets its contract. Assumes nothing.
-use borrow.Author.Needs.{needs}
-use native.Mathlib.Omega.{arith}
 use Rattle.requests.specs.Request.{byLetter}
 use Rattle.requests.specs.declared.Request.the-variants.{Show, Unreadable}
 use Rattle.requests.proofs.FieldLaws.{ended-there, ended-later}
