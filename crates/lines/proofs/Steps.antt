@@ -190,6 +190,7 @@ no-room r l bs d h = let stopped : goesOn (length d) (placeOf r l bs) ≡ false 
   text = [];
   read = omega arith;
   wrote = record { bytes = refl; next = refl };
+  inside = omega arith;
   goes = stops stopped;
 }
 

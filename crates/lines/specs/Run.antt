@@ -133,4 +133,5 @@ pub record Advanced (r : Run) (l bs d : List ℕ) (p : Progress) (l′ e : List 
   pub text : List ℕ
   pub read : p .read ≤ length bs
   pub wrote : Wrote d 0 text e (p .written)
+  pub inside : p .written ≤ length d
   pub goes : Advances (length d) (placeOf r l bs) (placed p l′ bs) text

@@ -65,6 +65,7 @@ returns-2 c =
       text = m .text;
       read = m .read;
       wrote = m .wrote;
+      inside = m .inside;
       goes = settled-goes (a .run) (a .area .now) (a .piece .now) (length (a .out .now)) (search needs) _ _
           (subst (λ (r : Run). Advances (length (a .out .now)) (placeOf r (a .area .now) (a .piece .now)) (placed (at .p) (at .area) (a .piece .now)) (m .text)) (c .before .before .before .settled .ensures) (midway-end (a .area .now) (a .piece .now) (a .out .now) _ (at .area) (at .out) (at .p) m stopped));
     }
