@@ -9,6 +9,7 @@ ghost use Prim.Native.Nat.{_≤_};
 ghost use lib.ListN.{length};
 
 const INPUT: i32 = 0;
+
 const OUTPUT: i32 = 1;
 
 // The run; the places of the piece from which and up to which it is to be read; whether the input has ended, and whether

@@ -161,7 +161,7 @@ module _ (p : Progress) (l bs d : List ℕ) (e : ℕ) (inside : p .read ≤ leng
     line-answered q a l′ s k z d′ said-q answers new number room w =
         let asked-q : asked (placed p l bs) ≡ q = sym (said-q ∙ ap (λ (n : ℕ). said (heldAll (heldBy (p .run .line)) (take n (drop (p .read) bs)))) between) in
         let behind : drop (e + 1) bs ≡ drop (suc (beforeLf (drop (p .read) bs))) (drop (p .read) bs) =
-            ap (λ (n : ℕ). drop n bs) (let n : e + 1 ≡ p .read + suc (beforeLf (drop (p .read) bs)) = omega arith in n) ∙ sym (drop-drop (suc (beforeLf (drop (p .read) bs))) (p .read) bs) in
+        ap (λ (n : ℕ). drop n bs) (let n : e + 1 ≡ p .read + suc (beforeLf (drop (p .read) bs)) = omega arith in n) ∙ sym (drop-drop (suc (beforeLf (drop (p .read) bs))) (p .read) bs) in
         record {
           read = let i = end-inside in omega arith;
           place = rw (ends, asked-q, behind, new, number, answers .row, answers .area) refl;

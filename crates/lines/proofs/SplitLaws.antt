@@ -106,7 +106,7 @@ lines-ended h (b ∷ bs) more k = go (eqb b lf) (λ k′. lines-ended (heldThen 
         → (beforeLf bs < length bs → linesFrom (heldThen h b) (bs ++ more) ≡ heldAll (heldThen h b) (take (beforeLf bs) bs) ∷ linesFrom none (drop (suc (beforeLf bs)) bs ++ more))
         → cond t 0 (suc (beforeLf bs)) < suc (length bs)
         → cond t (h ∷ linesFrom none (bs ++ more)) (linesFrom (heldThen h b) (bs ++ more))
-            ≡ heldAll h (take (cond t 0 (suc (beforeLf bs))) (b ∷ bs)) ∷ linesFrom none (drop (suc (cond t 0 (suc (beforeLf bs)))) (b ∷ bs) ++ more)
+        ≡ heldAll h (take (cond t 0 (suc (beforeLf bs))) (b ∷ bs)) ∷ linesFrom none (drop (suc (cond t 0 (suc (beforeLf bs)))) (b ∷ bs) ++ more)
     go true f k′ = refl
     go false f k′ = f (omega arith)
 

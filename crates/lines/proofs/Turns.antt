@@ -50,7 +50,7 @@ module _ (m : Place) where
 
       go : (t : Bool) → rowThere m ≡ t
           → rowsText (drop (m .row) (walked (m .area))) ++ rest
-            ≡ cond t (rowText (nth (m .row) (walked (m .area)))) [] ++ (rowsText (drop (cond t (m .row + 1) mostRows) (walked (m .area))) ++ rest)
+          ≡ cond t (rowText (nth (m .row) (walked (m .area)))) [] ++ (rowsText (drop (cond t (m .row + 1) mostRows) (walked (m .area))) ++ rest)
       go true e = ap (λ (x : List ℕ). x ++ rest) (there e) ∙ append-assoc (rowText (nth (m .row) (walked (m .area)))) (rowsText (drop (m .row + 1) (walked (m .area)))) rest
       go false e = ap (λ (x : List ℕ). x ++ rest) (no-rows (m .row) (m .area) (ltb-false (m .row) (length (walked (m .area))) e) ∙ sym (past-rows mostRows (m .area) (omega arith)))
 
@@ -98,7 +98,7 @@ module _ (m : Place) (more : List ℕ) (none-shown : mostRows ≤ m .row) where
     where
       go : (t : Bool) → lineEnds m ≡ t
           → written (m .number) (m .area) (linesFrom (m .held) (m .input ++ more))
-            ≡ cond t (answerText (m .number) (answerOf (m .area) (asked m) .answer)) [] ++ stillTo (cond t (answered m (asked m)) (kept m)) more
+          ≡ cond t (answerText (m .number) (answerOf (m .area) (asked m) .answer)) [] ++ stillTo (cond t (answered m (asked m)) (kept m)) more
       go true e = ended (ltb-true (beforeLf (m .input)) (length (m .input)) e)
       go false e = open-still (ltb-false (beforeLf (m .input)) (length (m .input)) e)
 

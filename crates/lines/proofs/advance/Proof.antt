@@ -45,9 +45,12 @@ loop-again : tie.Need-loop-again Inv-loop μ-loop
 loop-again c =
     let a = c .before .before .before .before .before .before .before .before .before .before .before .before .before .before .before .before .args in
     let at = c .before .before .before .before .before .before .before .before .before .loop in
-    let same : length (c .before .before .before .before .turn .last .1 .0) ≡ length (at .area) = search needs in
-    (refl, same ∙ at .inv .1, midway-next (a .area .now) (a .piece .now) (a .out .now) _ (at .area) (at .out) (at .p) (at .inv .2)
-    (sym (test-is (c .before .before .before .before .before .before .before .before .before .loop .p) (c .before .before .before .before .before .before .before .before .before .loop .area) (a .piece .now) (length (a .out .now))) ∙ sym (c .before .before .before .before .before .before .before .before .goes-on .ensures) ∙ c .before .before .before .before .before .before .before .if2 .taken) _ _ _ (c .before .before .before .before .turn .ensures))
+    let same : length (c .before .before .before .before .turn .last .1 .0) ≡ length (at .area) = search needs in (
+      refl,
+      same ∙ at .inv .1,
+      midway-next (a .area .now) (a .piece .now) (a .out .now) _ (at .area) (at .out) (at .p) (at .inv .2)
+          (sym (test-is (c .before .before .before .before .before .before .before .before .before .loop .p) (c .before .before .before .before .before .before .before .before .before .loop .area) (a .piece .now) (length (a .out .now))) ∙ sym (c .before .before .before .before .before .before .before .before .goes-on .ensures) ∙ c .before .before .before .before .before .before .before .if2 .taken) _ _ _ (c .before .before .before .before .turn .ensures),
+    )
 
 same-length : tie.Need-same-length Inv-loop μ-loop
 same-length c = c .before .before .loop .inv .1

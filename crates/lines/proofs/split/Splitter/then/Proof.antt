@@ -63,10 +63,10 @@ returns-3 c =
     let size = length-take-le (a .self .len) (a .self .bytes) (omega arith) in
     held-short (record { bytes = at .bytes; len = a .self .len + length (a .piece .now) }) (inv .1)
     ∙ ap short (
-        ap (λ (k : ℕ). take (a .self .len + k) (at .bytes)) (sym all)
-        ∙ inv .3
-        ∙ ap (λ (k : ℕ). take (a .self .len) (a .self .bytes) ++ take k (a .piece .now)) all
-        ∙ ap (λ (x : List ℕ). take (a .self .len) (a .self .bytes) ++ x) (take-all (length (a .piece .now)) (a .piece .now) (omega arith)))
+    ap (λ (k : ℕ). take (a .self .len + k) (at .bytes)) (sym all)
+    ∙ inv .3
+    ∙ ap (λ (k : ℕ). take (a .self .len) (a .self .bytes) ++ take k (a .piece .now)) all
+    ∙ ap (λ (x : List ℕ). take (a .self .len) (a .self .bytes) ++ x) (take-all (length (a .piece .now)) (a .piece .now) (omega arith)))
     ∙ sym (ap (λ (h : Held). heldAll h (a .piece .now)) (held-short (a .self) few) ∙ all-fits (take (a .self .len) (a .self .bytes)) (a .piece .now) (omega (arith, inv .1)))
 
 pub then-spec : {M : Type 1} → statement M
