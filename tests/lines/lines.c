@@ -9,6 +9,7 @@
 
 #include <signal.h>
 #include <stdio.h>
+#include <stdlib.h>
 #include <string.h>
 #include <sys/wait.h>
 
@@ -28,6 +29,18 @@ static void shown(char *text, size_t room, const uint8_t *at, size_t count)
     text[used] = 0;
 }
 
+static unsigned long times[13];
+
+/* Answers that were to come, so that none goes untried. */
+static void count_answer(const uint8_t *line)
+{
+    char *space;
+    strtoull((const char *)line, &space, 10);
+    unsigned long answer = strtoul(space, NULL, 10);
+    if (line[0] != '=' && answer < 13)
+        times[answer]++;
+}
+
 /* Counts each line that is the same; says where the first other one is. */
 static void compare_output(const struct bytes *out, const struct bytes *want)
 {
@@ -41,6 +54,7 @@ static void compare_output(const struct bytes *out, const struct bytes *want)
         number++;
         if (same) {
             check(true, "same");
+            count_answer(want_at);
         } else {
             shown(got_text, sizeof got_text, got_at, got_count);
             shown(want_text, sizeof want_text, want_at, want_count);
@@ -332,6 +346,17 @@ static void speed(void)
            full, few ? " (times under an emulator say nothing)" : "");
 }
 
+/* 5 is out of reach of a line: its letter is its verdict. */
+static void every_answer(void)
+{
+    group("every answer but 5 came up");
+    printf("answers:");
+    for (unsigned i = 0; i < 13; i++) {
+        printf(" %u %lu times%s", i, times[i], i < 12 ? "," : "\n");
+        check(i == 5 ? times[i] == 0 : times[i] > 0, "answer %u, %lu times", i, times[i]);
+    }
+}
+
 static int print_expected(void)
 {
     static struct bytes in, want;
@@ -366,5 +391,6 @@ int main(int count, char **words)
     much_output();
     closed_output();
     speed();
+    every_answer();
     return finish();
 }

@@ -1,8 +1,6 @@
 #define _GNU_SOURCE
 #include "run.h"
 
-#include "groups.h"
-
 #include <errno.h>
 #include <fcntl.h>
 #include <poll.h>
@@ -13,7 +11,7 @@
 #include <time.h>
 #include <unistd.h>
 
-enum { PATIENCE = 60, PAUSE_MS = 3, CHUNK = 1 << 16 };
+enum { PATIENCE = 60, PAUSE_MS = 3, CHUNK = 1 << 16, ODD_STEP = 7919 };
 
 char **program;
 
@@ -116,7 +114,7 @@ struct ended run(const struct bytes *in, struct feed feed, struct bytes *out, st
     struct pollfd side[3] = {{output[0], POLLIN, 0}, {error[0], POLLIN, 0}, {input[1], POLLOUT, 0}};
     if (feed.most)
         need(fcntl(input[1], F_SETFL, O_NONBLOCK) == 0, "fcntl");
-    size_t done = 0;
+    size_t done = 0, pieces = 0;
     double resume = began;
     while ((side[0].fd >= 0 || side[1].fd >= 0) && now() < deadline) {
         bool resting = now() < resume;
@@ -126,7 +124,7 @@ struct ended run(const struct bytes *in, struct feed feed, struct bytes *out, st
         take(&side[1], said);
         if (side[2].fd < 0 || !side[2].revents)
             continue;
-        size_t left = in->count - done, piece = 1 + any_below(feed.most);
+        size_t left = in->count - done, piece = 1 + pieces++ * ODD_STEP % feed.most;
         ssize_t put = left ? write(input[1], in->at + done, piece < left ? piece : left) : 0;
         if (put > 0)
             done += (size_t)put;
