@@ -130,7 +130,8 @@ static void bad_lines(void)
         clear(&in);
         kinds[k].put(&in);
         compare(&in, from_file);
-        compare(&in, (struct feed){3000, 20});
+        if (!few)
+            compare(&in, (struct feed){3000, 20});
     }
 }
 
@@ -252,6 +253,47 @@ static void pieces(void)
             put_many_rows(&in, 2000);
         }
         compare(&in, (struct feed){most[i], few ? 20 : 60});
+    }
+}
+
+/* 15 one-role open sets in the row of `p`, and rows beside it; the answers follow by their number alone.
+ * The second program can't come here: with its 6 roles no update makes a 16th open set. */
+static void put_sixteenth(struct bytes *in, struct bytes *want)
+{
+    unsigned n = 16 + (unsigned)any_below(49), line = 0;
+    uint32_t p = 2 + (uint32_t)any_below(UINT32_MAX - 2);
+    uint64_t roles = 0, others = UINT64_MAX >> (64 - n);
+    clear(in);
+    clear(want);
+    putf(in, "O %u\nD %lu 0\nG %lu 1\n", n, (unsigned long)p - 1, (unsigned long)p + 1);
+    while (__builtin_popcountll(roles) < 15) {
+        unsigned role = (unsigned)any_below(n);
+        if (!(roles >> role & 1))
+            putf(in, "%c %lu %u\n", any_below(2) ? 'A' : 'G', (unsigned long)p, role);
+        roles |= UINT64_C(1) << role;
+    }
+    others &= ~roles;
+    unsigned other = (unsigned)__builtin_ctzll(others), held = (unsigned)__builtin_ctzll(roles);
+    putf(in, "S\nA %lu %u\nQ %lu %u\n", (unsigned long)p, other, (unsigned long)p, held);
+    putf(in, "G %lu %u\nQ %lu %u\nS\n", (unsigned long)p, other, (unsigned long)p, held);
+
+    while (line < 19)
+        putf(want, "%u 0\n", ++line);
+    putf(want, "= %lu 0\n= %lu -", (unsigned long)p - 1, (unsigned long)p);
+    for (unsigned role = 0; role < n; role++)
+        if (roles >> role & 1)
+            putf(want, " %u", role);
+    putf(want, "\n= %lu - 1\n20 7\n21 11\n22 8\n23 12\n24 0\n", (unsigned long)p + 1);
+    putf(want, "= %lu 0\n= %lu - 1\n", (unsigned long)p - 1, (unsigned long)p + 1);
+}
+
+static void sixteenth_set(void)
+{
+    static struct bytes in, want;
+    group("a 16th open set: the reply answers 7, the update 8, and then the row is gone");
+    for (size_t i = 0; i < (few ? 10 : 100); i++) {
+        put_sixteenth(&in, &want);
+        compare_with(&in, from_file, &want);
     }
 }
 
@@ -388,6 +430,7 @@ int main(int count, char **words)
     boundaries();
     pieces();
     random_streams();
+    sixteenth_set();
     much_output();
     closed_output();
     speed();
