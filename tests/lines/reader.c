@@ -76,7 +76,12 @@ static struct line read_line(const uint8_t *at, size_t count)
     return line;
 }
 
-/* ---- groups of roles that no event on a permission tells apart */
+/* ---- groups of roles that no event on a permission tells apart
+ *
+ * Replies are on whole groups and updates on groups of one role, so whether a holder set is possible depends only on
+ * which groups it shares a role with: group i can be role i of the second program. Denied and open sets are whole
+ * groups too: if every possible holder set shares a role with t, it does so with the groups inside t, since from any
+ * other group it could have a role outside t instead. */
 
 struct groups {
     uint32_t permission;
