@@ -167,8 +167,13 @@ reduce-ext l k same = ascending-ext (reduce l) (reduce k) (reduce-ascending l) (
     kept : (l k : List ℕ) → ((x : ℕ) → Mem x l ↔ Mem x k) → (x : ℕ) → Mem x (reduce l) → Mem x (reduce k)
     kept l k same x m = let p = reduce-least l x .0 m in reduce-least k x .1 (same x .0 (p .0), λ o n t. p .1 o (same o .1 n) t)
 
--- one set more, no smaller than the others as a number, is kept exactly when none that is kept is part of it
-module _ (l : List ℕ) (x : ℕ) (above : (y : ℕ) → Mem y l → y ≤ x) where
+pub reduce-last : (l : List ℕ) (x : ℕ) → reduce (l ++ x ∷ []) ≡ reduce (x ∷ l)
+reduce-last l x =
+    reduce-ext (l ++ x ∷ []) (x ∷ l)
+    (λ y. ((λ m. ⊎-elim (λ k. inr k) (λ e. inl e) (mem-snoc l x y .0 m)), (λ m. mem-snoc l x y .1 (⊎-elim (λ e. inr e) (λ k. inl k) m))))
+
+-- one set more goes where one that is kept is part of it; else it stays, if it is no smaller as a number than the others
+module _ (l : List ℕ) (x : ℕ) where
   pub reduce-drops : T (hasPart x (reduce l)) → reduce (l ++ x ∷ []) ≡ reduce l
   reduce-drops t = ascending-ext (reduce (l ++ x ∷ [])) (reduce l) (reduce-ascending (l ++ x ∷ [])) (reduce-ascending l) (λ y. (to y, from y))
     where
@@ -197,8 +202,8 @@ module _ (l : List ℕ) (x : ℕ) (above : (y : ℕ) → Mem y l → y ≤ x) wh
               let q = reduce-least l y .0 m .1 (part .0) (reduce-law l (part .0) .0 (part .1) .0) (partOf-trans (part .0) x y (part .2) v) in
               e ∙ partOf-antisym x y v (subst (λ (z : ℕ). T (partOf z x)) q (part .2))
 
-  pub reduce-keeps : T (not (hasPart x (reduce l))) → reduce (l ++ x ∷ []) ≡ reduce l ++ x ∷ []
-  reduce-keeps t =
+  pub reduce-keeps : ((y : ℕ) → Mem y l → y ≤ x) → T (not (hasPart x (reduce l))) → reduce (l ++ x ∷ []) ≡ reduce l ++ x ∷ []
+  reduce-keeps above t =
       ascending-ext (reduce (l ++ x ∷ [])) (reduce l ++ x ∷ []) (reduce-ascending (l ++ x ∷ []))
       (ascending-snoc (reduce l) x (reduce-ascending l) below) (λ y. (to y, from y))
     where
