@@ -69,12 +69,12 @@ static uint32_t allow(uint64_t set)
 }
 
 /* What is known already. */
-static uint32_t deny_known(void)
+static uint32_t reply_deny(void)
 {
     return deny(denied_set);
 }
 
-static uint32_t allow_known(void)
+static uint32_t reply_allow(void)
 {
     return allow(last_open);
 }
@@ -116,9 +116,9 @@ static const struct {
     {"decide", decide},
 #endif
 #ifdef REPLY
-    {"deny-known", deny_known},
+    {"reply-deny", reply_deny},
+    {"reply-allow", reply_allow},
     {"deny-strikes", deny_strikes},
-    {"allow-known", allow_known},
     {"allow-drops", allow_drops},
     {"allow-first", allow_first},
     {"allow-last", allow_last},
