@@ -125,7 +125,7 @@ static const struct {
 #endif
 };
 
-static void stop(const char *why)
+static _Noreturn void stop(const char *why)
 {
     fprintf(stderr, "measure: %s\n", why);
     exit(2);
@@ -147,7 +147,6 @@ static enum kind kind_named(const char *name)
         if (strcmp(name, names[kind]) == 0)
             return kind;
     stop("no such kind");
-    return OWN;
 }
 
 int main(int argc, char **argv)
