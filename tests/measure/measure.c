@@ -1,6 +1,6 @@
-/* Repeats one call of the archive on an area of a known fill:
- *     measure CALL ROWS OPENS own|pairs TIMES
- * prints the last answer. Two runs that differ by one call give the cost of that call. */
+/* Repeats one call of the archive on an area of a known fill, which is put back before each call:
+ *     measure CALL ROWS OPENS own|pairs|turned TIMES
+ * prints the last answer. Two runs that differ by one call give the cost of that call and of putting back. */
 #include "areas.h"
 
 #include <stdio.h>
@@ -20,11 +20,11 @@ uint32_t REPLY(uint8_t *area, size_t len, uint32_t permission, uint64_t verdict,
 
 static uint8_t area[AREA_BYTES], before[AREA_BYTES];
 
-/* The last row's permission and two of its sets; on an empty area permission 1 and empty sets. */
+/* The last row's permission and sets of it; on an empty area permission 1 and empty sets. */
 static uint32_t permission;
-static uint64_t denied_set, open_set;
+static uint64_t denied_set, first_open, last_open, struck;
 
-/* The loop alone, and the loop with a thousand instructions: they prove the counter. */
+/* Putting back alone, and with a thousand instructions: they prove the counter. */
 static uint32_t nothing(void)
 {
     return 0;
@@ -36,10 +36,16 @@ static uint32_t thousand(void)
     return 0;
 }
 
-#ifdef CHECK
+#if defined CHECK
 static uint32_t check(void)
 {
     return CHECK(area, AREA_BYTES);
+}
+#elif defined DECIDE
+/* Permission 0 is refused right after the check. */
+static uint32_t check(void)
+{
+    return DECIDE(area, AREA_BYTES, 0, 0);
 }
 #endif
 
@@ -52,15 +58,48 @@ static uint32_t decide(void)
 #endif
 
 #ifdef REPLY
-/* Replies that say what is known already: each repetition finds the same area. */
+static uint32_t deny(uint64_t set)
+{
+    return REPLY(area, AREA_BYTES, permission, 0, set);
+}
+
+static uint32_t allow(uint64_t set)
+{
+    return REPLY(area, AREA_BYTES, permission, 1, set);
+}
+
+/* What is known already. */
 static uint32_t reply_deny(void)
 {
-    return REPLY(area, AREA_BYTES, permission, 0, denied_set);
+    return deny(denied_set);
 }
 
 static uint32_t reply_allow(void)
 {
-    return REPLY(area, AREA_BYTES, permission, 1, open_set);
+    return allow(last_open);
+}
+
+/* Open sets lose roles: of pairs the struck ones then come first and drop the others. */
+static uint32_t deny_strikes(void)
+{
+    return deny(struck);
+}
+
+/* The lowest role of the first open set alone: of pairs it drops every set that has it. */
+static uint32_t allow_drops(void)
+{
+    return allow(first_open & -first_open);
+}
+
+/* One open set more, before all others and behind them. */
+static uint32_t allow_first(void)
+{
+    return allow(UINT64_C(1) << LOWEST_ROLE);
+}
+
+static uint32_t allow_last(void)
+{
+    return allow(UINT64_C(1) << FREE_ROLE);
 }
 #endif
 
@@ -70,7 +109,7 @@ static const struct {
 } calls[] = {
     {"nothing", nothing},
     {"thousand", thousand},
-#ifdef CHECK
+#if defined CHECK || defined DECIDE
     {"check", check},
 #endif
 #ifdef DECIDE
@@ -79,10 +118,14 @@ static const struct {
 #ifdef REPLY
     {"reply-deny", reply_deny},
     {"reply-allow", reply_allow},
+    {"deny-strikes", deny_strikes},
+    {"allow-drops", allow_drops},
+    {"allow-first", allow_first},
+    {"allow-last", allow_last},
 #endif
 };
 
-static void stop(const char *why)
+static _Noreturn void stop(const char *why)
 {
     fprintf(stderr, "measure: %s\n", why);
     exit(2);
@@ -97,33 +140,47 @@ static unsigned number(const char *text, unsigned most)
     return (unsigned)value;
 }
 
+static enum kind kind_named(const char *name)
+{
+    static const char *const names[] = {[OWN] = "own", [PAIRS] = "pairs", [TURNED] = "turned"};
+    for (enum kind kind = OWN; kind <= TURNED; kind++)
+        if (strcmp(name, names[kind]) == 0)
+            return kind;
+    stop("no such kind");
+}
+
 int main(int argc, char **argv)
 {
     if (argc != 6)
-        stop("usage: measure CALL ROWS OPENS own|pairs TIMES");
+        stop("usage: measure CALL ROWS OPENS own|pairs|turned TIMES");
     uint32_t (*run)(void) = NULL;
     for (size_t k = 0; k < sizeof calls / sizeof calls[0]; k++)
         if (strcmp(argv[1], calls[k].name) == 0)
             run = calls[k].run;
-    bool own = strcmp(argv[4], "own") == 0;
-    if (run == NULL || (!own && strcmp(argv[4], "pairs") != 0))
-        stop("no such call or kind");
+    if (run == NULL)
+        stop("no such call");
     unsigned rows = number(argv[2], MOST_ROWS);
     unsigned opens = number(argv[3], MOST_OPENS);
+    enum kind kind = kind_named(argv[4]);
     unsigned times = number(argv[5], 1000000);
 
-    fill(area, rows, opens, own ? OWN : PAIRS);
-    memcpy(before, area, AREA_BYTES);
+    fill(before, rows, opens, kind);
     permission = rows > 0 ? rows : 1;
-    denied_set = rows > 0 ? word(area, body_at(rows - 1)) : 0;
-    open_set = rows > 0 ? word(area, body_at(rows - 1) + opens) : 0;
+    if (rows > 0) {
+        denied_set = word(before, body_at(rows - 1));
+        first_open = word(before, body_at(rows - 1) + 1);
+        last_open = word(before, body_at(rows - 1) + opens);
+        struck = strikable(rows - 1, opens, kind);
+    }
 
     uint32_t answer = 0;
-    for (unsigned k = 0; k < times; k++)
+    for (unsigned k = 0; k < times; k++) {
+        memcpy(area, before, AREA_BYTES);
         answer = run();
+    }
 
-    if (memcmp(area, before, AREA_BYTES) != 0)
-        stop("the call changed the area");
+    if (!is_good(area))
+        stop("the call left a bad area");
     printf("%u\n", (unsigned)answer);
     return 0;
 }
