@@ -13,7 +13,7 @@ use Rattle.text.specs.Write.{Wrote}
 use Rattle.text.proofs.WriteLaws.{wrote-length}
 use Rattle.text.proofs.Shape.{length-number, length-set-text}
 use Rattle.area.specs.State.{Entry}
-use Rattle.lines.specs.Written.{answerText, setsText, rowText}
+use Rattle.lines.specs.Written.{answerText, setsOf, setsText, rowText}
 
 pub room-first : (at : ℕ) (t u : List ℕ) {n : ℕ} → at + length (t ++ u) ≤ n → at + length t ≤ n
 room-first at t u h = omega (arith, length-append t u)
@@ -42,7 +42,8 @@ pub length-row : (e : Entry) → e .permission < 2 ^ 32 → length (e .row .open
 unfolding rowText
 length-row e p k =
     let n = length-number 9 (e .permission) (omega arith) in
-    let s = length-sets-text (e .row .denied ∷ e .row .opens) in
+    let few : length (setsOf (e .row)) ≤ 16 = omega (arith, length-append (e .row .opens) (e .row .denied ∷ [])) in
+    let s = length-sets-text (setsOf (e .row)) in
     simp length-append (omega arith)
 
 pub length-answer : (k a : ℕ) → k < 2 ^ 64 → a < 2 ^ 32 → length (answerText k a) ≤ 4096

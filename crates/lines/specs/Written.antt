@@ -2,7 +2,7 @@
 --     answerOf l q        the answer to a request on the area l, and the bytes afterwards: those of the call it asks for
 --     shown l q           the rows that follow the answer
 --     answerText k a      line number, space, answer, LF
---     setsText            sets, a space before each
+--     setsOf, setsText    the sets of a row in the order in which they are printed; sets, a space before each
 --     rowText e           `= p denied open open ..`, LF
 --     after k             the number of the next line; numbers have 64 bits
 --     lineWritten k l q   what is written for line k, where it says q
@@ -13,6 +13,7 @@ use Prim.Native.Nat.{ℕ, _+_, _%_, _^_}
 use lib.ListN.{replicate}
 use Rattle.meaning.specs.declared.Happening.{Happening}
 use Rattle.meaning.specs.declared.Happening.the-variants.{Allow, Deny, Given, Withdrawn}
+use Rattle.meaning.specs.Rows.{Row}
 use Rattle.area.specs.Layout.{areaBytes}
 use Rattle.area.specs.State.{Entry}
 use Rattle.walker.specs.Walk.{walked, startAnswer}
@@ -56,12 +57,15 @@ equals = 61
 unfoldable pub answerText : ℕ → ℕ → List ℕ
 answerText k a = numberText k ++ (space ∷ []) ++ numberText a ++ lf ∷ []
 
+abbrev pub setsOf : Row → List ℕ
+setsOf w = w .denied ∷ w .opens
+
 unfoldable pub setsText : List ℕ → List ℕ
 setsText [] = []
 setsText (s ∷ l) = (space ∷ []) ++ setText s ++ setsText l
 
 unfoldable pub rowText : Entry → List ℕ
-rowText e = (equals ∷ space ∷ []) ++ numberText (e .permission) ++ setsText (e .row .denied ∷ e .row .opens) ++ lf ∷ []
+rowText e = (equals ∷ space ∷ []) ++ numberText (e .permission) ++ setsText (setsOf (e .row)) ++ lf ∷ []
 
 unfoldable pub rowsText : List Entry → List ℕ
 rowsText [] = []
