@@ -7,7 +7,7 @@ use Prim.Native.Nat.{ℕ, zero, suc, _+_, _≤_, _<_}
 use native.Mathlib.Decide.{decLt, decLe}
 use native.Mathlib.Numerals.{add-one}
 use native.Mathlib.Omega.{arith}
-use borrow.Author.Tests.{eq-eqb, ne-eqb, eqb-true, lt-ltb, le-ltb, le-leb, lt-leb}
+use borrow.Author.Tests.{ne-eqb, lt-ltb, le-ltb, le-leb, lt-leb}
 use lib.Dec.{eqb, eqb·suc-zero}
 use lib.ListN.{length, take, drop, getD, set, length-append, drop-of-length-le}
 use lib.Seq.{take-suc, take-suc-set}
@@ -137,7 +137,7 @@ cut-once h (b ∷ bs) more = go (eqb b lf) (cut-once none bs more) (cut-once (he
     go : (t : Bool) → linesFrom none (bs ++ more) ≡ ended none bs ++ linesFrom (left none bs) more
         → linesFrom (heldThen h b) (bs ++ more) ≡ ended (heldThen h b) bs ++ linesFrom (left (heldThen h b) bs) more
         → cond t (h ∷ linesFrom none (bs ++ more)) (linesFrom (heldThen h b) (bs ++ more))
-            ≡ cond t (h ∷ ended none bs) (ended (heldThen h b) bs) ++ linesFrom (cond t (left none bs) (left (heldThen h b) bs)) more
+        ≡ cond t (h ∷ ended none bs) (ended (heldThen h b) bs) ++ linesFrom (cond t (left none bs) (left (heldThen h b) bs)) more
     go true e f = ap (λ (x : List Held). h ∷ x) e
     go false e f = f
 
