@@ -7,7 +7,7 @@ use Prim.Native.Nat.{ℕ}
 use lib.Dec.{T, ltb, leb}
 use lib.ListN.{length}
 use Rattle.roles.specs.Sets.{single, allBelow, joined, partOf}
-use Rattle.roles.proofs.Member.{T-or, in-empty, partOf-law}
+use Rattle.roles.proofs.Member.{T-or, T-true, T-false, in-empty, partOf-law}
 use Rattle.roles.proofs.Laws.{single-below, partOf-allBelow}
 use Rattle.meaning.specs.declared.Happening.{Happening}
 use Rattle.meaning.specs.Events.{about, known}
@@ -22,7 +22,7 @@ use Rattle.area.proofs.Bytes.{area-good, area-state}
 use Rattle.cache.specs.Calls.{Out, stays, holds, valid, fitsIn, eventOn, replied, onArea, replyOf, decideOf}
 use Rattle.cache.specs.Histories.{reply}
 use Rattle.cache.specs.Demands as demands
-use Rattle.cache.proofs.Outcomes.{T-true, T-false, decide-on}
+use Rattle.cache.proofs.Outcomes.{decide-on}
 
 empty-part : (t : ℕ) → T (partOf 0 t)
 empty-part t = partOf-law 0 t .1 (λ r h. absurd (in-empty r h))

@@ -18,7 +18,8 @@ use Rattle.area.proofs.Bytes.{area-good, area-state}
 use Rattle.cache.specs.Calls.{Out, stays, holds, valid, replied, onArea, replyOf, decideOf}
 use Rattle.cache.specs.Histories.{Call, reply, update, ask, forget, outOf, lengthened, trailAfter, History, next, history}
 use Rattle.cache.specs.Demands as demands
-use Rattle.cache.proofs.Outcomes.{T-true, decide-on}
+use Rattle.roles.proofs.Member.{T-true}
+use Rattle.cache.proofs.Outcomes.{decide-on}
 use Rattle.cache.proofs.Invariant.{Holds, next-holds, history-holds}
 use Rattle.cache.proofs.Grounds as grounds
 

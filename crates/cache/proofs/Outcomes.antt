@@ -8,7 +8,7 @@ use native.Mathlib.Omega.{arith}
 use lib.Dec.{T, T-not, ltb, leb, leb→le, ltb→lt}
 use lib.ListN.{length}
 use Rattle.roles.specs.Sets.{allBelow, partOf}
-use Rattle.roles.proofs.Member.{T?, T-and, T-or, T-ext}
+use Rattle.roles.proofs.Member.{T?, T-and, T-or, T-true, T-false}
 use Rattle.meaning.specs.declared.Happening.{Happening}
 use Rattle.meaning.specs.Events.{known}
 use Rattle.meaning.specs.Rows.{Row, blank, Good, fits, contradicts, step, settle, decide}
@@ -21,12 +21,6 @@ use Rattle.area.proofs.Bytes.{area-good, area-state}
 use Rattle.cache.specs.Calls.{Out, stays, holds, valid, isReply, fitsIn, eventOn, replied, updated, onArea, replyOf, updateOf, decideOf, forgetOf}
 
 -- ---- states with another row
-
-pub T-true : (b : Bool) → T b → b ≡ true
-T-true b h = T-ext b true ((λ t. tt), (λ t. h))
-
-pub T-false : (b : Bool) → T (not b) → b ≡ false
-T-false b h = T-ext b false (T-not b h, (λ t. absurd t))
 
 T-not-not : (b : Bool) → T (not (not b)) → T b
 T-not-not true t = tt

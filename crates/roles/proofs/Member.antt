@@ -34,6 +34,12 @@ T-ext true false e = absurd (e .0 tt)
 T-ext false true e = absurd (e .1 tt)
 T-ext false false e = refl
 
+pub T-true : (b : Bool) → T b → b ≡ true
+T-true b h = T-ext b true ((λ t. tt), (λ t. h))
+
+pub T-false : (b : Bool) → T (not b) → b ≡ false
+T-false b h = T-ext b false (T-not b h, (λ t. absurd t))
+
 -- ---- one role
 
 -- a role is in a set or is not

@@ -11,6 +11,7 @@ use native.Mathlib.Omega.{arith}
 use lib.Dec.{T}
 use lib.ListN.{length}
 use borrow.Author.Tests.{lt-ltb, le-ltb}
+use Rattle.roles.proofs.Member.{T-true}
 use Rattle.area.specs.Layout.{mostRows, lastPermission, goodBytes}
 use Rattle.area.specs.State.{stateOf}
 use Rattle.area.proofs.RowLaws.{row-good}
@@ -19,10 +20,6 @@ use Rattle.table.specs.Table.{Sound, rowsIn, nth}
 use Rattle.table.proofs.RowWords.{sound}
 use Rattle.walker.specs.Walk.{walked, firstRow, given, none, handed, numberAfter, Walkable, startAnswer}
 use Rattle.walker.specs.declared.Handed.{Handed}
-
-is-true : (b : Bool) → T b → b ≡ true
-is-true true t = refl
-is-true false t = absurd t
 
 good-or-bad : (l : List ℕ) {A : Type 0} → (goodBytes l ≡ true → A) → (goodBytes l ≡ false → A) → A
 good-or-bad l {A} g b = by-cases (goodBytes l) refl
@@ -53,7 +50,7 @@ answer-bad l e = rw e
 
 pub walked-good : (l : List ℕ) → T (goodBytes l) → walked l ≡ rowsIn l
 unfolding walked
-walked-good l t = rw (is-true (goodBytes l) t)
+walked-good l t = rw (T-true (goodBytes l) t)
 
 pub walked-bad : (l : List ℕ) → goodBytes l ≡ false → length (walked l) ≡ 0
 unfolding walked
@@ -107,7 +104,7 @@ number-next l k i r e q = ap (λ (j : ℕ). handed l j .next) e ∙ ap (λ (h : 
 module _ (l : List ℕ) (t : T (goodBytes l)) where
   number-row : (k : ℕ) → k ≤ length (rowsIn l) → numberAfter k l ≡ k
   unfolding numberAfter
-  number-row zero h = first-good l (is-true (goodBytes l) t)
+  number-row zero h = first-good l (T-true (goodBytes l) t)
   number-row (suc k) h = number-next l k k _ (number-row k (omega arith)) (walk-row l k t (omega arith)) ∙ add-one k
 
   number-end : (k : ℕ) → length (rowsIn l) ≤ k → numberAfter k l ≡ length (rowsIn l)

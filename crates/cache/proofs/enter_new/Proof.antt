@@ -18,7 +18,7 @@ use Rattle.table.specs.declared.Found.the-variants.{Vacant}
 use Rattle.cache.specs.declared.Answer.the-variants.{Contradiction, Full, Forgotten}
 use Rattle.cache.specs.Calls.{stays, eventOn, eventOf}
 use Rattle.cache.specs.Answers.{Gives, Fresh}
-use Rattle.cache.proofs.Outcomes.{T-true}
+use Rattle.roles.proofs.Member.{T-true}
 use Rattle.cache.proofs.Ladder.{gives, Entered, entered}
 use Rattle.cache.proofs.Writes.{row-none, area-kept, fitting-tidy, known-64, answered}
 use Rattle.cache.proofs.enter_new.Statement.{statement}

@@ -15,7 +15,7 @@ use Rattle.table.specs.declared.Found.the-variants.{At}
 use Rattle.cache.specs.declared.Answer.the-variants.{Done, Contradiction, Full, Forgotten}
 use Rattle.cache.specs.Calls.{stays, eventOf}
 use Rattle.cache.specs.Answers.{Gives}
-use Rattle.cache.proofs.Outcomes.{T-true}
+use Rattle.roles.proofs.Member.{T-true}
 use Rattle.cache.proofs.Ladder.{gives, fitsIn-over, placed, Entered, entered}
 use Rattle.cache.proofs.Writes.{row-inside, row-there, row-says, read-tidy, known-64, answered, settled-row, settled-tidy}
 use Rattle.cache.proofs.enter_over.Statement.{statement}

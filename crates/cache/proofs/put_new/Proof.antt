@@ -21,7 +21,7 @@ use Rattle.cache.specs.declared.Answer.{Answer}
 use Rattle.cache.specs.declared.Answer.the-variants.{Done}
 use Rattle.cache.specs.Calls.{Out, stays, isReply, eventOn, eventOf}
 use Rattle.cache.specs.Answers.{numberOf, Gives, Fresh}
-use Rattle.cache.proofs.Outcomes.{T-true, T-false}
+use Rattle.roles.proofs.Member.{T-true, T-false}
 use Rattle.cache.proofs.Places.{bytes-are}
 use Rattle.cache.proofs.Ladder.{gives, fitsIn-blank, fitsIn-room, fitsIn-none, placed, no-place}
 use Rattle.cache.proofs.Writes.{place-inside, row-none, state-new, area-kept, fitting-tidy}
