@@ -20,7 +20,6 @@ use Rattle.area.specs.State.{State, Entry, GoodState, isBlank, rowFor, withRow,
 use Rattle.area.proofs.RowLaws.{isBlank-law, Hit, hit-law, put-not}
 use Rattle.area.proofs.Bytes.{area-good, area-state}
 use Rattle.cache.specs.Calls.{Out, stays, holds, valid, fitsIn, eventOn, replied, onArea, replyOf, decideOf}
-use Rattle.cache.specs.Histories.{reply}
 use Rattle.cache.specs.Demands as demands
 use Rattle.cache.proofs.Outcomes.{decide-on}
 

@@ -15,7 +15,7 @@ use Rattle.meaning.proofs.Theorems.{row-decides, trail-contradicts}
 use Rattle.area.specs.Layout.{goodBytes}
 use Rattle.area.specs.State.{State, GoodState, rowFor, stateOf, areaOf}
 use Rattle.area.proofs.Bytes.{area-good, area-state}
-use Rattle.cache.specs.Calls.{Out, stays, holds, valid, replied, onArea, replyOf, decideOf}
+use Rattle.cache.specs.Calls.{Out, stays, valid, replied, onArea, replyOf, decideOf}
 use Rattle.cache.specs.Histories.{Call, reply, update, ask, forget, outOf, lengthened, trailAfter, History, next, history}
 use Rattle.cache.specs.Demands as demands
 use Rattle.roles.proofs.Member.{T-true}

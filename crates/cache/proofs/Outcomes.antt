@@ -5,7 +5,7 @@ use mathlib.Core.List.{List}
 use mathlib.Core.Logic.{_≢_, _⊎_, inl, inr, ⊎-elim}
 use Prim.Native.Nat.{ℕ, _≤_, _<_}
 use native.Mathlib.Omega.{arith}
-use lib.Dec.{T, T-not, ltb, leb, leb→le, ltb→lt}
+use lib.Dec.{T, ltb, leb, leb→le, ltb→lt}
 use lib.ListN.{length}
 use Rattle.roles.specs.Sets.{allBelow, partOf}
 use Rattle.roles.proofs.Member.{T?, T-and, T-or, T-true, T-false}

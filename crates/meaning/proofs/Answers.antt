@@ -4,11 +4,11 @@ use mathlib.Core.Bool.{Bool, true, false, not, cond}
 use mathlib.Core.Logic.{_↔_, ⊎-elim}
 use Prim.Native.Nat.{ℕ, _≤_, _<_}
 use native.Mathlib.Omega.{arith}
-use lib.Dec.{T, T-not, leb, leb→le, le→leb, nleb→lt}
+use lib.Dec.{T, T-not, leb→le, le→leb, nleb→lt}
 use lib.Arith.{lt→nleb}
 use lib.ListN.{length}
-use Rattle.meaning.specs.Events.{known, agrees, Reply}
-use Rattle.meaning.specs.Rows.{Row, blank, Leaves, Good, mostOpens, fits, contradicts, step, Settled, unchanged, forgotten, overflow, settle, Settles}
+use Rattle.meaning.specs.Events.{known, Reply}
+use Rattle.meaning.specs.Rows.{Row, blank, Good, mostOpens, fits, contradicts, step, Settled, unchanged, forgotten, overflow, settle, Settles}
 use Rattle.meaning.proofs.Kept.{blank-good, step-good}
 use Rattle.meaning.proofs.Verdicts.{unlike, contradicts-law}
 use Rattle.meaning.specs.declared.Happening.{Happening}

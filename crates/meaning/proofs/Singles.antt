@@ -1,7 +1,7 @@
 -- A row of one-role open sets: good, and as long as there are roles for it. Assumes nothing.
 use mathlib.Core.Path.{_≡_, refl, sym, ap, _∙_, subst, subst⁻¹}
 use mathlib.Core.List.{List, [], _∷_}
-use mathlib.Core.Logic.{_⊎_, inl, inr, ⊎-elim}
+use mathlib.Core.Logic.{_⊎_, ⊎-elim}
 use Prim.Native.Nat.{ℕ, zero, suc, _+_, _^_, _<_, _≤_}
 use native.Mathlib.Omega.{arith}
 use lib.Dec.{T}
@@ -11,7 +11,7 @@ use Rattle.roles.specs.Sets.{single, partOf}
 use Rattle.roles.proofs.Member.{in-single, partOf-law}
 use Rattle.roles.proofs.Laws.{in⇒nonempty, in-own-single, single-below, shares-empty}
 use Rattle.meaning.specs.Lists.{Mem, Ascending}
-use Rattle.meaning.specs.Rows.{Row, Good}
+use Rattle.meaning.specs.Rows.{Good}
 
 -- {r}, {r + 1}, ..: k of them
 unfoldable pub singles : ℕ → ℕ → List ℕ

@@ -1,6 +1,6 @@
 -- Each step changes the possible holder sets exactly as its event does. Assumes nothing.
 use mathlib.Core.Path.{_≡_, refl, subst, subst⁻¹}
-use mathlib.Core.List.{List, [], _∷_}
+use mathlib.Core.List.{_∷_}
 use mathlib.Core.Logic.{_↔_, _⊎_, inl, inr, ⊎-elim}
 use Prim.Native.Nat.{ℕ, _^_, _<_}
 use lib.Dec.{T, T-not, not-T}
@@ -9,7 +9,7 @@ use Rattle.roles.proofs.Member.{T?, in?, in-single, in-joined, in-without, set-
 use Rattle.roles.proofs.Laws.{in-own-single, single-below, below-single, partOf-allBelow, shares-at, shares-single, shares-joined, shares-without, joined-below, without-below, without-apart}
 use Rattle.meaning.specs.Events.{about, known, agrees, after, Effect}
 use Rattle.meaning.specs.Lists.{Mem}
-use Rattle.meaning.specs.Rows.{Row, Leaves, Good, losing, apart, denying, allowing, clearing, giving, withdrawing, step}
+use Rattle.meaning.specs.Rows.{Row, Leaves, Good, losing, denying, allowing, clearing, giving, withdrawing, step}
 use Rattle.meaning.proofs.OpenLaws.{apart-law, reduce-meets, losing-meets}
 use Rattle.meaning.specs.declared.Happening.{Happening}
 use Rattle.meaning.specs.declared.Happening.the-variants.{Allow, Deny, Given, Withdrawn}

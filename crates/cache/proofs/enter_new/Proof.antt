@@ -8,7 +8,7 @@ use lib.Dec.{T}
 use Rattle.words.proofs.Laws.{Bytes}
 use Rattle.meaning.specs.declared.Happening.{Happening}
 use Rattle.meaning.specs.Events.{known}
-use Rattle.meaning.specs.Rows.{Row, blank, fits, step, settle}
+use Rattle.meaning.specs.Rows.{Row, blank, fits, settle}
 use Rattle.area.specs.State.{isBlank, stateOf}
 use Rattle.rows.specs.Stored.{rowOf, storedRow}
 use Rattle.rows.specs.declared.Row as value
