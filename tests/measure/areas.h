@@ -2,7 +2,6 @@
 #ifndef MEASURE_AREAS_H
 #define MEASURE_AREAS_H
 
-#include <stdbool.h>
 #include <stddef.h>
 #include <stdint.h>
 
@@ -23,11 +22,11 @@ enum kind { OWN, PAIRS };
 /* A role that no filled row denies and no open set has. */
 #define FREE_ROLE 47
 
-/* Role count 64, permissions 1 to rows; rows at most MOST_ROWS, opens at most MOST_OPENS. */
+/* Role count 64, row i has the permission permission_of(i); rows at most MOST_ROWS, opens at most MOST_OPENS. */
 void fill(uint8_t *area, unsigned rows, unsigned opens, enum kind kind);
 
-/* Whether the area obeys every layout rule. */
-bool is_good(const uint8_t *area);
+/* Even numbers from 2 on: a new permission may then stand before, between or behind those with a row. */
+uint32_t permission_of(unsigned i);
 
 uint64_t word(const uint8_t *area, size_t at);
 
