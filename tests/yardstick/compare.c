@@ -192,6 +192,23 @@ static void decide_once(void)
     both(&(struct call){DECIDE, AREA_BYTES, permission_of(0), 0, 1});
 }
 
+/* Role counts and row counts of every size, over rows that are there or not. */
+static void every_header(void)
+{
+    static const unsigned rows[] = {0, 1, 127, 128};
+    group("every role count with every row count");
+    for (size_t r = 0; r < sizeof rows / sizeof rows[0]; r++) {
+        fill(area, rows[r], 1, OWN);
+        memcpy(other, area, AREA_BYTES);
+        for (uint64_t n = 0; n <= 130; n++)
+            for (uint64_t used = 0; used <= 130; used++) {
+                put_both(0, n);
+                put_both(1, used);
+                decide_once();
+            }
+    }
+}
+
 /* Each word of a full and of a half full area by itself, so that none can go unread. */
 static void each_word_damaged(void)
 {
@@ -293,6 +310,7 @@ int main(void)
 {
     good_streams();
     filled_streams();
+    every_header();
     each_word_damaged();
     damaged_areas();
     random_areas();
