@@ -44,7 +44,7 @@ else
 fi
 
 # Builds the archive of a crate anew: one of older code would be tested as if it were this one.
-archive() {
+build_archive() {
     (cd "$root" && "$rt" staticlib "$1") >"$work/rt" 2>&1 || { cat "$work/rt" >&2; stop "no archive"; }
     archive=$root/target/staticlib/lib$1.a
 }

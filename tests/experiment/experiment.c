@@ -24,22 +24,23 @@ enum {
     UNDECIDED = WICKTHRUSH_UNDECIDED
 };
 
-/* A policy's size, and what document 001 reports for it: the gain over exact reuse in percent, 0 where it says nothing. */
+/* A policy's size, and what document 001 reports for it: the gain over exact reuse in percent, 0 where it says nothing.
+ */
 struct setup {
     unsigned users, permissions, roles_per_permission, reported_gain;
 };
 
 static const struct setup setups[] = {
-    {50, 3000, 2, 30}, {100, 3000, 2, 74}, {200, 3000, 2, 128}, {50, 3000, 20, 0},
-    {100, 3000, 20, 0}, {200, 3000, 20, 0}, {100, 128, 2, 0},     {100, 128, 20, 0},
+    {50, 3000, 2, 30},  {100, 3000, 2, 74}, {200, 3000, 2, 128}, {50, 3000, 20, 0},
+    {100, 3000, 20, 0}, {200, 3000, 20, 0}, {100, 128, 2, 0},    {100, 128, 20, 0},
 };
 
 enum { SETUPS = sizeof setups / sizeof setups[0] };
 
 struct result {
-    double hit[CURVES][LEVELS];               /* percent */
-    unsigned long replies, refused[CURVES];   /* refused: answered 7 */
-    size_t most_opens;                        /* of a row without limits, at any time */
+    double hit[CURVES][LEVELS];             /* percent */
+    unsigned long replies, refused[CURVES]; /* refused: answered 7 */
+    size_t most_opens;                      /* of a row without limits, at any time */
 };
 
 /* ---- the policy, which stands for the head office */
@@ -201,13 +202,16 @@ static unsigned needed_areas(const struct setup *setup)
 
 static void write_tables(FILE *out, const struct result *results)
 {
-    fprintf(out, "# Hit rates\n\nWritten by `tests/experiment/run`; [EXPERIMENT.md](../EXPERIMENT.md) says what they mean. "
-                 "Hit rates in percent of %d requests.\n", TESTS);
+    fprintf(out,
+            "# Hit rates\n\nWritten by `tests/experiment/run`; [EXPERIMENT.md](../EXPERIMENT.md) says what they mean. "
+            "Hit rates in percent of %d requests.\n",
+            TESTS);
     for (size_t k = 0; k < SETUPS; k++) {
         const struct setup *s = &setups[k];
         fprintf(out, "\n## %u users, %u permissions, %u roles a permission\n\n", s->users, s->permissions,
                 s->roles_per_permission);
-        fprintf(out, "| Warmness | Exact reuse | One area | Areas for all (%u) | Without limits |\n|---|---|---|---|---|\n",
+        fprintf(out,
+                "| Warmness | Exact reuse | One area | Areas for all (%u) | Without limits |\n|---|---|---|---|---|\n",
                 needed_areas(s));
         for (unsigned level = 0; level < LEVELS; level++)
             fprintf(out, "| %u %% | %.1f | %.1f | %.1f | %.1f |\n", 100 * level / (LEVELS - 1),
@@ -221,18 +225,21 @@ static void write_summary(FILE *out, const struct result *results)
     static const unsigned levels[] = {2, 4, 6, 10, 20};
     fprintf(out, "Hit rate in percent, exact reuse / areas for all permissions / without limits:\n\n");
     fputs("| Users | Permissions | Roles a permission | 10 % warm | 20 % | 30 % | 50 % | 100 % |\n"
-          "|---|---|---|---|---|---|---|---|\n", out);
+          "|---|---|---|---|---|---|---|---|\n",
+          out);
     for (size_t k = 0; k < SETUPS; k++) {
         fprintf(out, "| %u | %u | %u |", setups[k].users, setups[k].permissions, setups[k].roles_per_permission);
         for (size_t i = 0; i < sizeof levels / sizeof levels[0]; i++)
-            fprintf(out, " %.1f / %.1f / %.1f |", results[k].hit[EXACT][levels[i]],
-                    results[k].hit[SEVERAL][levels[i]], results[k].hit[UNLIMITED][levels[i]]);
+            fprintf(out, " %.1f / %.1f / %.1f |", results[k].hit[EXACT][levels[i]], results[k].hit[SEVERAL][levels[i]],
+                    results[k].hit[UNLIMITED][levels[i]]);
         fprintf(out, "\n");
     }
     fprintf(out, "\nMean gain over exact reuse in percent, and what did not fit:\n\n");
-    fprintf(out, "| Users | Permissions | Roles a permission | Gain, document 001 | without limits | areas for all | one area "
-                 "| Replies answered 7, areas for all | one area | Most open sets, without limits |\n"
-                 "|---|---|---|---|---|---|---|---|---|---|\n");
+    fprintf(
+        out,
+        "| Users | Permissions | Roles a permission | Gain, document 001 | without limits | areas for all | one area "
+        "| Replies answered 7, areas for all | one area | Most open sets, without limits |\n"
+        "|---|---|---|---|---|---|---|---|---|---|\n");
     for (size_t k = 0; k < SETUPS; k++) {
         const struct result *r = &results[k];
         fprintf(out, "| %u | %u | %u |", setups[k].users, setups[k].permissions, setups[k].roles_per_permission);

@@ -65,7 +65,8 @@ static const size_t odd_lengths[] = {0, 1, AREA_BYTES - 8, AREA_BYTES - 1, AREA_
 
 #define ANY_OF(list) ((list)[any_below(sizeof(list) / sizeof(list)[0])])
 
-/* What a stream is made of: role count, how many permissions, how many roles to a set, calls of 100 that are updates. */
+/* What a stream is made of: role count, how many permissions, how many roles to a set, calls of 100 that are updates.
+ */
 struct style {
     uint64_t n;
     unsigned permissions, roles, updates;
