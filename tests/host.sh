@@ -29,8 +29,10 @@ has_compiler() {
     command -v "$1" >/dev/null && [ -e "$("$1" -print-file-name=libc.a)" ]
 }
 
-# Archives are x86-64: elsewhere a cross compiler links them, and the kit's emulator runs the result.
+# Archives and programs are x86-64: elsewhere a cross compiler links them, and the kit's emulator runs the result.
 rt=$(command -v rt) || stop "rt is not on the path"
+kit=${RATTLE_HOME:-$(dirname "$(dirname "$(readlink -f "$rt")")")}
+tools=$kit/on/$(uname -m)/toolchain
 if [ "$(uname -m)" = x86_64 ]; then
     compiler=gcc
     has_compiler "$compiler" || packages gcc libc6-dev
@@ -38,15 +40,19 @@ if [ "$(uname -m)" = x86_64 ]; then
 else
     compiler=x86_64-linux-gnu-gcc
     has_compiler "$compiler" || packages gcc-x86-64-linux-gnu libc6-dev-amd64-cross
-    kit=$(dirname "$(dirname "$(readlink -f "$rt")")")
-    runner=("$kit/on/$(uname -m)/toolchain/bin/qemu-x86_64")
+    runner=("$tools/bin/qemu-x86_64")
     [ -x "${runner[0]}" ] || stop "the kit has no emulator"
 fi
 
 # Builds the archive of a crate anew: one of older code would be tested as if it were this one.
+# One build at a time, and a copy of what it made: a second one would write what the first still reads.
 build_archive() {
-    (cd "$root" && "$rt" staticlib "$1") >"$work/rt" 2>&1 || { cat "$work/rt" >&2; stop "no archive"; }
-    archive=$root/target/staticlib/lib$1.a
+    local lock
+    exec {lock}<"$root/tests/host.sh" && flock "$lock"
+    (cd "$root" && "$rt" staticlib "$1") </dev/null >"$work/rt" 2>&1 || { cat "$work/rt" >&2; stop "no archive"; }
+    archive=$work/lib$1.a
+    cp "$root/target/staticlib/lib$1.a" "$archive"
+    exec {lock}<&-
 }
 
 run() {

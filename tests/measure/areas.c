@@ -5,8 +5,8 @@
 #include <assert.h>
 #include <string.h>
 
-/* Roles below FIRST_DENIED may be open, those from it on may be denied. */
-enum { FIRST_DENIED = 48, SHIFTS = 16 };
+/* Roles from FIRST_OPEN on may be open, those from FIRST_DENIED on may be denied. */
+enum { FIRST_OPEN = 1, FIRST_DENIED = 48, SHIFTS = 16 };
 
 uint64_t word(const uint8_t *area, size_t at)
 {
@@ -32,13 +32,53 @@ size_t body_at(size_t i)
     return BODIES_AT + BODY_WORDS * i;
 }
 
+static uint64_t role(unsigned r)
+{
+    return UINT64_C(1) << r;
+}
+
 /* By the higher role first, then by the lower: the pairs then ascend as numbers. */
 static uint64_t pair(unsigned k)
 {
     unsigned high = 1;
     for (; k >= high; high++)
         k -= high;
-    return UINT64_C(1) << high | UINT64_C(1) << k;
+    return role(high) | role(k);
+}
+
+/* Rows differ, so that none of them can stand for another. */
+static unsigned shift(unsigned i)
+{
+    return i % SHIFTS;
+}
+
+/* Set k of a row's open sets, before its shift. */
+static uint64_t open_set(unsigned k, enum kind kind)
+{
+    switch (kind) {
+    case PAIRS:
+        return pair(k);
+    case TURNED:
+        return role(MOST_OPENS + k) | role(MOST_OPENS - 1 - k);
+    default:
+        return role(k);
+    }
+}
+
+static uint64_t highest_role(uint64_t set)
+{
+    while ((set & (set - 1)) != 0)
+        set &= set - 1;
+    return set;
+}
+
+uint64_t strikable(unsigned i, unsigned opens, enum kind kind)
+{
+    uint64_t roles = 0;
+    for (unsigned k = 0; k < opens; k++)
+        if (kind == TURNED || (kind == PAIRS && k + 1 == opens))
+            roles |= highest_role(open_set(k, kind));
+    return roles << FIRST_OPEN << shift(i);
 }
 
 uint32_t permission_of(unsigned i)
@@ -53,15 +93,11 @@ void fill(uint8_t *area, unsigned rows, unsigned opens, enum kind kind)
     put(area, 0, 64);
     put(area, 1, rows);
     for (unsigned i = 0; i < rows; i++) {
-        /* Rows differ, so that none of them can stand for another. */
-        unsigned shift = i % SHIFTS;
         put(area, contents_at(i), permission_of(i));
         put(area, contents_at(i) + 1, opens);
-        put(area, body_at(i), UINT64_C(1) << (FIRST_DENIED + shift));
-        for (unsigned k = 0; k < opens; k++) {
-            uint64_t set = kind == PAIRS ? pair(k) : UINT64_C(1) << k;
-            put(area, body_at(i) + 1 + k, set << shift);
-        }
+        put(area, body_at(i), role(FIRST_DENIED + shift(i)));
+        for (unsigned k = 0; k < opens; k++)
+            put(area, body_at(i) + 1 + k, open_set(k, kind) << FIRST_OPEN << shift(i));
     }
     assert(yardstick_good(area, AREA_BYTES));
 }

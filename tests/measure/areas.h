@@ -15,11 +15,13 @@ enum {
     AREA_BYTES = 8 * AREA_WORDS
 };
 
-/* OWN: each open set has a role that no other set of its row has.
- * PAIRS: the open sets are all pairs of few roles, so no set has a role of its own. */
-enum kind { OWN, PAIRS };
+/* OWN: each open set is one role that no other set of its row has.
+ * PAIRS: the open sets are all pairs of few roles, so no set has a role of its own.
+ * TURNED: each open set has two roles of its own; without the upper ones the sets stand in falling order. */
+enum kind { OWN, PAIRS, TURNED };
 
-/* A role that no filled row denies and no open set has. */
+/* Roles that no filled row denies and no open set has: one below, one above those of all open sets. */
+#define LOWEST_ROLE 0
 #define FREE_ROLE 47
 
 /* Role count 64, row i has the permission permission_of(i); rows at most MOST_ROWS, opens at most MOST_OPENS. */
@@ -27,6 +29,10 @@ void fill(uint8_t *area, unsigned rows, unsigned opens, enum kind kind);
 
 /* Even numbers from 2 on: a new permission may then stand before, between or behind those with a row. */
 uint32_t permission_of(unsigned i);
+
+/* Roles that a deny reply strikes out of row i's open sets: of TURNED the upper one of each set, of PAIRS the
+ * highest one, of OWN none. */
+uint64_t strikable(unsigned i, unsigned opens, enum kind kind);
 
 uint64_t word(const uint8_t *area, size_t at);
 

@@ -1,9 +1,9 @@
-/* Repeats one call of the archive on an area of a known fill:
- *     measure CALL ROWS OPENS own|pairs TIMES
- * prints the last answer. Two runs that differ by one call give the cost of that call. */
+/* Repeats one call of the archive on an area of a known fill, which is put back before each call:
+ *     measure CALL ROWS OPENS own|pairs|turned TIMES
+ * prints the last answer. Two runs that differ by one call give the cost of that call and of putting back. */
+#include "../yardstick/yardstick.h"
 #include "areas.h"
 
-#include <stdbool.h>
 #include <stdio.h>
 #include <stdlib.h>
 #include <string.h>
@@ -21,16 +21,11 @@ uint32_t REPLY(uint8_t *area, size_t len, uint32_t permission, uint64_t verdict,
 
 static uint8_t area[AREA_BYTES], before[AREA_BYTES];
 
-/* The last row's permission and two of its sets; on an empty area any permission and empty sets. */
+/* The last row's permission and sets of it; on an empty area the permission of row 0 and empty sets. */
 static uint32_t permission;
-static uint64_t denied_set, open_set;
+static uint64_t denied_set, first_open, last_open, struck;
 
-/* Sets that tell the last row something new. With pairs a role that many of them have: a deny on it strikes it from
- * those, an allow on it takes their place. Else a free role: a deny on it leaves the open sets as they are, an allow on
- * it is one open set more. */
-static uint64_t new_set;
-
-/* The loop alone, and the loop with a thousand instructions: they prove the counter. */
+/* Putting back alone, and with a thousand instructions: they prove the counter. */
 static uint32_t nothing(void)
 {
     return 0;
@@ -42,10 +37,16 @@ static uint32_t thousand(void)
     return 0;
 }
 
-#ifdef CHECK
+#if defined CHECK
 static uint32_t check(void)
 {
     return CHECK(area, AREA_BYTES);
+}
+#elif defined DECIDE
+/* Permission 0 is refused right after the check. */
+static uint32_t check(void)
+{
+    return DECIDE(area, AREA_BYTES, 0, 0);
 }
 #endif
 
@@ -58,58 +59,81 @@ static uint32_t decide(void)
 #endif
 
 #ifdef REPLY
-/* Replies that say what is known already: each repetition finds the same area. */
+static uint32_t deny(uint64_t set)
+{
+    return REPLY(area, AREA_BYTES, permission, 0, set);
+}
+
+static uint32_t allow(uint64_t set)
+{
+    return REPLY(area, AREA_BYTES, permission, 1, set);
+}
+
+/* What is known already. */
 static uint32_t reply_deny(void)
 {
-    return REPLY(area, AREA_BYTES, permission, 0, denied_set);
+    return deny(denied_set);
 }
 
 static uint32_t reply_allow(void)
 {
-    return REPLY(area, AREA_BYTES, permission, 1, open_set);
+    return allow(last_open);
 }
 
-/* Replies that change the last row, and one that makes a new first row. */
-static uint32_t change_deny(void)
+/* Open sets lose roles: of pairs the struck ones then come first and drop the others. */
+static uint32_t deny_strikes(void)
 {
-    return REPLY(area, AREA_BYTES, permission, 0, new_set);
+    return deny(struck);
 }
 
-static uint32_t change_allow(void)
+/* The lowest role of the first open set alone: of pairs it drops every set that has it. */
+static uint32_t allow_drops(void)
 {
-    return REPLY(area, AREA_BYTES, permission, 1, new_set);
+    return allow(first_open & -first_open);
 }
 
+/* One open set more, before all others and behind them. */
+static uint32_t allow_first(void)
+{
+    return allow(UINT64_C(1) << LOWEST_ROLE);
+}
+
+static uint32_t allow_last(void)
+{
+    return allow(UINT64_C(1) << FREE_ROLE);
+}
+
+/* A permission before all others: every row moves. */
 static uint32_t new_row(void)
 {
-    return REPLY(area, AREA_BYTES, permission_of(0) - 1, 0, new_set);
+    return REPLY(area, AREA_BYTES, permission_of(0) - 1, 0, UINT64_C(1) << FREE_ROLE);
 }
 #endif
 
 static const struct {
     const char *name;
     uint32_t (*run)(void);
-    bool restores; /* the area is put back after each call: "restoring" is that alone */
 } calls[] = {
-    {"nothing", nothing, false},
-    {"thousand", thousand, false},
-    {"restoring", nothing, true},
-#ifdef CHECK
-    {"check", check, false},
+    {"nothing", nothing},
+    {"thousand", thousand},
+#if defined CHECK || defined DECIDE
+    {"check", check},
 #endif
 #ifdef DECIDE
-    {"decide", decide, false},
+    {"decide", decide},
 #endif
 #ifdef REPLY
-    {"reply-deny", reply_deny, false},
-    {"reply-allow", reply_allow, false},
-    {"change-deny", change_deny, true},
-    {"change-allow", change_allow, true},
-    {"new-row", new_row, true},
+    {"reply-deny", reply_deny},
+    {"reply-allow", reply_allow},
+    {"deny-strikes", deny_strikes},
+    {"allow-drops", allow_drops},
+    {"allow-first", allow_first},
+    {"allow-last", allow_last},
+    {"new-row", new_row},
 #endif
 };
 
-static void stop(const char *why)
+static _Noreturn void stop(const char *why)
 {
     fprintf(stderr, "measure: %s\n", why);
     exit(2);
@@ -124,41 +148,47 @@ static unsigned number(const char *text, unsigned most)
     return (unsigned)value;
 }
 
+static enum kind kind_named(const char *name)
+{
+    static const char *const names[] = {[OWN] = "own", [PAIRS] = "pairs", [TURNED] = "turned"};
+    for (enum kind kind = OWN; kind <= TURNED; kind++)
+        if (strcmp(name, names[kind]) == 0)
+            return kind;
+    stop("no such kind");
+}
+
 int main(int argc, char **argv)
 {
     if (argc != 6)
-        stop("usage: measure CALL ROWS OPENS own|pairs TIMES");
+        stop("usage: measure CALL ROWS OPENS own|pairs|turned TIMES");
     uint32_t (*run)(void) = NULL;
-    bool restores = false;
     for (size_t k = 0; k < sizeof calls / sizeof calls[0]; k++)
-        if (strcmp(argv[1], calls[k].name) == 0) {
+        if (strcmp(argv[1], calls[k].name) == 0)
             run = calls[k].run;
-            restores = calls[k].restores;
-        }
-    bool own = strcmp(argv[4], "own") == 0;
-    if (run == NULL || (!own && strcmp(argv[4], "pairs") != 0))
-        stop("no such call or kind");
+    if (run == NULL)
+        stop("no such call");
     unsigned rows = number(argv[2], MOST_ROWS);
     unsigned opens = number(argv[3], MOST_OPENS);
+    enum kind kind = kind_named(argv[4]);
     unsigned times = number(argv[5], 1000000);
 
-    fill(area, rows, opens, own ? OWN : PAIRS);
-    memcpy(before, area, AREA_BYTES);
+    fill(before, rows, opens, kind);
     permission = permission_of(rows > 0 ? rows - 1 : 0);
-    denied_set = rows > 0 ? word(area, body_at(rows - 1)) : 0;
-    open_set = rows > 0 ? word(area, body_at(rows - 1) + opens) : 0;
-    uint64_t first_open = rows > 0 && opens > 0 ? word(area, body_at(rows - 1) + 1) : 0;
-    new_set = own ? UINT64_C(1) << FREE_ROLE : first_open & (~first_open + 1);
+    if (rows > 0) {
+        denied_set = word(before, body_at(rows - 1));
+        first_open = word(before, body_at(rows - 1) + 1);
+        last_open = word(before, body_at(rows - 1) + opens);
+        struck = strikable(rows - 1, opens, kind);
+    }
 
     uint32_t answer = 0;
     for (unsigned k = 0; k < times; k++) {
+        memcpy(area, before, AREA_BYTES);
         answer = run();
-        if (restores)
-            memcpy(area, before, AREA_BYTES);
     }
 
-    if (memcmp(area, before, AREA_BYTES) != 0)
-        stop("the call changed the area");
+    if (!yardstick_good(area, AREA_BYTES))
+        stop("the call left a bad area");
     printf("%u\n", (unsigned)answer);
     return 0;
 }

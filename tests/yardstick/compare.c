@@ -156,8 +156,8 @@ static void filled_streams(void)
     group("streams on filled areas");
     for (size_t r = 0; r < sizeof rows / sizeof rows[0]; r++)
         for (size_t o = 0; o < sizeof opens / sizeof opens[0]; o++)
-            for (unsigned kind = 0; kind < 2; kind++) {
-                fill(area, rows[r], opens[o], kind ? PAIRS : OWN);
+            for (enum kind kind = OWN; kind <= TURNED; kind++) {
+                fill(area, rows[r], opens[o], kind);
                 memcpy(other, area, AREA_BYTES);
                 struct style style = {64, 2 * rows[r] + 2, 1 + (unsigned)any_below(3), 5};
                 stream(&style, 200, 2);
@@ -233,9 +233,10 @@ static void each_word_damaged(void)
 static void damage(uint64_t n)
 {
     uint64_t rows = word(area, 1);
-    size_t i = rows ? any_below(rows) : 0;
+    /* The number of rows and that of open sets may be damaged already. */
+    size_t i = rows - 1 < MOST_ROWS ? any_below(rows) : 0;
     uint64_t count = word(area, contents_at(i) + 1);
-    size_t set = body_at(i) + any_below(count + 2 < BODY_WORDS ? count + 2 : BODY_WORDS);
+    size_t set = body_at(i) + any_below(count < MOST_OPENS ? count + 2 : BODY_WORDS);
     switch (any_below(10)) {
     case 0: put_both(0, any_below(70)); break;
     case 1: put_both(1, rows + any_below(3) - 1); break;

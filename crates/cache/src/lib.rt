@@ -49,6 +49,26 @@ pub enum Answer {
     Undecided,
 }
 
+// Document 01's number of an answer.
+pub fn number(r: Answer) -> u32
+    ensures { λ n. ⌜ n ≡ numberOf r ⌝ }
+{
+    match r {
+        Answer::Done => 0,
+        Answer::BadArea => 1,
+        Answer::BadRoleCount => 2,
+        Answer::NoPermission => 3,
+        Answer::UnknownRole => 4,
+        Answer::BadNumber => 5,
+        Answer::Contradiction => 6,
+        Answer::Full => 7,
+        Answer::Forgotten => 8,
+        Answer::Deny => 10,
+        Answer::Allow => 11,
+        Answer::Undecided => 12,
+    }
+}
+
 // ---- what the numbers of a call say
 
 // Whether all roles of s are below n.

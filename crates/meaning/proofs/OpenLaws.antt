@@ -1,8 +1,8 @@
 -- Laws of lists of open sets: their members, what reducing leaves of them, and which holder sets meet them. Assumes nothing.
 use mathlib.Core.Path.{_≡_, refl, sym, ap, _∙_, subst, subst⁻¹}
 use mathlib.Core.Bool.{Bool, true, false, not, cond, _&&_}
-use mathlib.Core.List.{List, [], _∷_}
-use mathlib.Core.Logic.{_↔_, _≢_, _⊎_, inl, inr, ⊎-elim, Iff·trans}
+use mathlib.Core.List.{List, [], _∷_, _++_}
+use mathlib.Core.Logic.{_↔_, _≢_, _⊎_, inl, inr, ⊎-elim, Iff·trans, Iff·symm}
 use Prim.Native.Nat.{ℕ, zero, suc, _<_, _≤_}
 use native.Mathlib.Decide.{ℕ-discrete}
 use native.Mathlib.Omega.{arith}
@@ -13,7 +13,7 @@ use Rattle.roles.proofs.Member.{T?, T-and}
 use Rattle.roles.proofs.Laws.{partOf-refl, partOf-trans, partOf-antisym, partOf-le, shares-partOf, shares-without}
 use Rattle.meaning.specs.Lists.{Mem, Ascending, any, keep, put}
 use Rattle.meaning.specs.Rows.{hasPart, properPart, hasProperPart, losing, apart, reduceBy, reduce}
-use Rattle.meaning.proofs.ListLaws.{any-law, none-law, keep-law, keep-ascending, length-keep, put-law, put-ascending, length-put, ascending-ext}
+use Rattle.meaning.proofs.ListLaws.{any-law, none-law, keep-law, keep-ascending, length-keep, put-law, put-ascending, length-put, mem-snoc, ascending-snoc, ascending-ext}
 
 -- ---- parts
 
@@ -159,6 +159,85 @@ reduce-part l x m = from (suc x) x (omega arith) m
         (r .0, r .1, partOf-trans (r .0) (p .0) x (r .2) (p .2)))
         (λ t. (x, reduce-law l x .1 (m, t), partOf-refl x))
         (T? (hasProperPart x l))
+
+-- the same sets, in any order and number, reduce to the same list
+pub reduce-ext : (l k : List ℕ) → ((x : ℕ) → Mem x l ↔ Mem x k) → reduce l ≡ reduce k
+reduce-ext l k same = ascending-ext (reduce l) (reduce k) (reduce-ascending l) (reduce-ascending k) (λ x. (kept l k same x, kept k l (λ y. Iff·symm (same y)) x))
+  where
+    kept : (l k : List ℕ) → ((x : ℕ) → Mem x l ↔ Mem x k) → (x : ℕ) → Mem x (reduce l) → Mem x (reduce k)
+    kept l k same x m = let p = reduce-least l x .0 m in reduce-least k x .1 (same x .0 (p .0), λ o n t. p .1 o (same o .1 n) t)
+
+pub reduce-last : (l : List ℕ) (x : ℕ) → reduce (l ++ x ∷ []) ≡ reduce (x ∷ l)
+reduce-last l x =
+    reduce-ext (l ++ x ∷ []) (x ∷ l)
+    (λ y. ((λ m. ⊎-elim (λ k. inr k) (λ e. inl e) (mem-snoc l x y .0 m)), (λ m. mem-snoc l x y .1 (⊎-elim (λ e. inr e) (λ k. inl k) m))))
+
+-- one set more goes where one that is kept is part of it; else it stays, if it is no smaller as a number than the others
+module _ (l : List ℕ) (x : ℕ) where
+  pub reduce-drops : T (hasPart x (reduce l)) → reduce (l ++ x ∷ []) ≡ reduce l
+  reduce-drops t = ascending-ext (reduce (l ++ x ∷ [])) (reduce l) (reduce-ascending (l ++ x ∷ [])) (reduce-ascending l) (λ y. (to y, from y))
+    where
+      part : (o : ℕ) × Mem o (reduce l) × T (partOf o x)
+      part = hasPart-law x (reduce l) .0 t
+
+      to : (y : ℕ) → Mem y (reduce (l ++ x ∷ [])) → Mem y (reduce l)
+      to y m =
+          let p = reduce-least (l ++ x ∷ []) y .0 m in
+          ⊎-elim
+          (λ k. reduce-least l y .1 (k, λ o n. p .1 o (mem-snoc l x o .1 (inl n))))
+          (λ e. subst (λ (z : ℕ). Mem z (reduce l))
+          (p .1 (part .0) (mem-snoc l x (part .0) .1 (inl (reduce-law l (part .0) .0 (part .1) .0))) (subst⁻¹ (λ (z : ℕ). T (partOf (part .0) z)) e (part .2)))
+          (part .1))
+          (mem-snoc l x y .0 (p .0))
+
+      from : (y : ℕ) → Mem y (reduce l) → Mem y (reduce (l ++ x ∷ []))
+      from y m =
+          let p = reduce-least l y .0 m in
+          reduce-least (l ++ x ∷ []) y .1 (mem-snoc l x y .1 (inl (p .0)), λ o n u. ⊎-elim (λ k. p .1 o k u) (λ e. same o e u) (mem-snoc l x o .0 n))
+        where
+          -- what is part of x is y itself, so x is too
+          same : (o : ℕ) → o ≡ x → T (partOf o y) → o ≡ y
+          same o e u =
+              let v = subst (λ (z : ℕ). T (partOf z y)) e u in
+              let q = reduce-least l y .0 m .1 (part .0) (reduce-law l (part .0) .0 (part .1) .0) (partOf-trans (part .0) x y (part .2) v) in
+              e ∙ partOf-antisym x y v (subst (λ (z : ℕ). T (partOf z x)) q (part .2))
+
+  pub reduce-keeps : ((y : ℕ) → Mem y l → y ≤ x) → T (not (hasPart x (reduce l))) → reduce (l ++ x ∷ []) ≡ reduce l ++ x ∷ []
+  reduce-keeps above t =
+      ascending-ext (reduce (l ++ x ∷ [])) (reduce l ++ x ∷ []) (reduce-ascending (l ++ x ∷ []))
+      (ascending-snoc (reduce l) x (reduce-ascending l) below) (λ y. (to y, from y))
+    where
+      none : (o : ℕ) → Mem o l → ¬ (T (partOf o x))
+      none o m u = let p = reduce-part l o m in T-not (partOf (p .0) x) (noPart-law x (reduce l) t (p .0) (p .1)) (partOf-trans (p .0) o x (p .2) u)
+
+      below : (y : ℕ) → Mem y (reduce l) → y < x
+      below y m =
+          let k = reduce-law l y .0 m .0 in
+          let le = above y k in
+          let ne : y ≢ x = λ e. none y k (subst (λ (z : ℕ). T (partOf y z)) e (partOf-refl y)) in
+          omega arith
+
+      to : (y : ℕ) → Mem y (reduce (l ++ x ∷ [])) → Mem y (reduce l ++ x ∷ [])
+      to y m =
+          let p = reduce-least (l ++ x ∷ []) y .0 m in
+          mem-snoc (reduce l) x y .1 (⊎-elim (λ k. inl (reduce-least l y .1 (k, λ o n. p .1 o (mem-snoc l x o .1 (inl n))))) (λ e. inr e) (mem-snoc l x y .0 (p .0)))
+
+      from : (y : ℕ) → Mem y (reduce l ++ x ∷ []) → Mem y (reduce (l ++ x ∷ []))
+      from y m = reduce-least (l ++ x ∷ []) y .1 (⊎-elim old new (mem-snoc (reduce l) x y .0 m))
+        where
+          old : Mem y (reduce l) → Mem y (l ++ x ∷ []) × Least y (l ++ x ∷ [])
+          old k =
+              let p = reduce-least l y .0 k in
+              let lt = below y k in (
+                mem-snoc l x y .1 (inl (p .0)),
+                λ o n u. ⊎-elim (λ q. p .1 o q u) (λ e. let le = partOf-le o y u in absurd (let z : ⊥ = omega arith in z)) (mem-snoc l x o .0 n),
+              )
+
+          new : y ≡ x → Mem y (l ++ x ∷ []) × Least y (l ++ x ∷ [])
+          new e = (
+            mem-snoc l x y .1 (inr e),
+            λ o n u. ⊎-elim (λ q. absurd (none o q (subst (λ (z : ℕ). T (partOf o z)) e u))) (λ f. f ∙ sym e) (mem-snoc l x o .0 n),
+          )
 
 -- ---- the holder sets that share a role with each set of the list
 

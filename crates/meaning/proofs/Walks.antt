@@ -1,11 +1,11 @@
 -- What a test over a list gains by one more of it: the answer for the rest is the answer for all. Assumes nothing.
-use mathlib.Core.Path.{_≡_, sym, ap, _∙_}
+use mathlib.Core.Path.{_≡_, refl, sym, ap, _∙_}
 use mathlib.Core.Bool.{Bool, true, false, _||_}
-use mathlib.Core.List.{List, _∷_}
+use mathlib.Core.List.{List, [], _∷_, _++_}
 use Prim.Native.Nat.{ℕ, _+_, _≤_, _<_}
 use native.Mathlib.Numerals.{add-one}
-use lib.ListN.{length, drop, getD, drop-of-length-le}
-use lib.Seq.{drop-cons}
+use lib.ListN.{length, take, drop, getD, drop-of-length-le}
+use lib.Seq.{take-suc, drop-cons}
 use Rattle.meaning.specs.Lists.{any}
 
 pub drop-next : (l : List ℕ) (i : ℕ) → i < length l → drop i l ≡ getD l i 0 ∷ drop (i + 1) l
@@ -25,3 +25,32 @@ module _ (p : ℕ → Bool) (l : List ℕ) (i : ℕ) (e : any p (drop i l) ≡ a
   pub any-end : length l ≤ i → false ≡ any p l
   unfolding any
   any-end h = sym (ap (any p) (drop-of-length-le l h)) ∙ e
+
+-- the same from the last to the first
+any-append : (p : ℕ → Bool) (k l : List ℕ) → any p (k ++ l) ≡ (any p k || any p l)
+unfolding any
+any-append p [] l = refl
+any-append p (x ∷ k) l = go (p x) (any-append p k l)
+  where
+    go : (t : Bool) → any p (k ++ l) ≡ (any p k || any p l) → (t || any p (k ++ l)) ≡ ((t || any p k) || any p l)
+    go true e = refl
+    go false e = e
+
+or-true : (b : Bool) → (b || true) ≡ true
+or-true true = refl
+or-true false = refl
+
+or-false : (b : Bool) → (b || false) ≡ b
+or-false true = refl
+or-false false = refl
+
+module _ (p : ℕ → Bool) (l : List ℕ) (i j : ℕ) (s : j ≡ i + 1) (h : i < length l) (e : any p (take j l) ≡ any p l) where
+  any-before : any p l ≡ (any p (take i l) || (p (getD l i 0) || false))
+  unfolding any
+  any-before = sym e ∙ ap (λ (n : ℕ). any p (take n l)) (s ∙ add-one i) ∙ ap (any p) (take-suc l i 0 h) ∙ any-append p (take i l) (getD l i 0 ∷ [])
+
+  pub any-hit-back : p (getD l i 0) ≡ true → true ≡ any p l
+  any-hit-back q = sym (any-before ∙ ap (λ (b : Bool). any p (take i l) || (b || false)) q ∙ or-true (any p (take i l)))
+
+  pub any-miss-back : p (getD l i 0) ≡ false → any p (take i l) ≡ any p l
+  any-miss-back q = sym (any-before ∙ ap (λ (b : Bool). any p (take i l) || (b || false)) q ∙ or-false (any p (take i l)))

@@ -1,4 +1,5 @@
 -- What several proofs of this crate cite.
 pub mod Padded
 mod Walks
+mod Sorting
 pub mod Numbers

@@ -51,15 +51,15 @@ answer-bad l e = rw e
 
 -- ---- the rows that are walked
 
-walked-good : (l : List ℕ) → T (goodBytes l) → walked l ≡ rowsIn l
+pub walked-good : (l : List ℕ) → T (goodBytes l) → walked l ≡ rowsIn l
 unfolding walked
 walked-good l t = rw (is-true (goodBytes l) t)
 
-walked-bad : (l : List ℕ) → goodBytes l ≡ false → length (walked l) ≡ 0
+pub walked-bad : (l : List ℕ) → goodBytes l ≡ false → length (walked l) ≡ 0
 unfolding walked
 walked-bad l e = rw e
 
-walked-few : (l : List ℕ) → length (walked l) ≤ mostRows
+pub walked-few : (l : List ℕ) → length (walked l) ≤ mostRows
 walked-few l = good-or-bad l (λ e. rw (walked-good l (rw e tt)) (sound l (rw e tt) .few)) (λ e. rw (walked-bad l e) (omega arith))
 
 -- the permission of a row is valid

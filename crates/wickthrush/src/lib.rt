@@ -1,28 +1,8 @@
 // What C calls: the calls of `cache`, with the answers as numbers. `include/wickthrush.h` declares them.
-use cache::Answer;
+use cache::number;
 ghost use mathlib.Core.Path.{_≡_};
 ghost use Rattle.cache.specs.Calls.{openOf, replyOf, updateOf, decideOf, forgetOf};
-ghost use Rattle.cache.specs.Answers.{numberOf};
 ghost use Rattle.wickthrush.specs.Numbers.{Returns};
-
-fn number(r: Answer) -> u32
-    ensures { λ n. ⌜ n ≡ numberOf r ⌝ }
-{
-    match r {
-        Answer::Done => 0,
-        Answer::BadArea => 1,
-        Answer::BadRoleCount => 2,
-        Answer::NoPermission => 3,
-        Answer::UnknownRole => 4,
-        Answer::BadNumber => 5,
-        Answer::Contradiction => 6,
-        Answer::Full => 7,
-        Answer::Forgotten => 8,
-        Answer::Deny => 10,
-        Answer::Allow => 11,
-        Answer::Undecided => 12,
-    }
-}
 
 #[no_mangle]
 pub extern "C" fn wickthrush_open(area: &mut [u8], roles: u64) -> u32

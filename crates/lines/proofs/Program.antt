@@ -1,0 +1,57 @@
+-- What the program writes is a function of the bytes of its input alone. Assumes nothing.
+use mathlib.Core.Path.{_≡_, refl, sym, ap, _∙_}
+use mathlib.Core.Bool.{Bool, true, false, not, _&&_, false≢true}
+use mathlib.Core.List.{List, [], _∷_, _++_, append-nil}
+use Prim.Native.Nat.{ℕ, suc, _≤_}
+use native.Mathlib.Omega.{arith}
+use borrow.Author.Tests.{ltb-false, eqb-true}
+use lib.Dec.{eqb, ltb}
+use lib.ListN.{length}
+use Rattle.area.specs.Layout.{mostRows}
+use Rattle.text.specs.Ascii.{lf}
+use Rattle.lines.specs.Split.{Held, none, isNone, linesFrom}
+use Rattle.lines.specs.Written.{written, programWrites}
+use Rattle.lines.specs.Run.{Place, showing}
+use Rattle.lines.specs.Program.{start, idle, fedWith, Runs, writes, reads, closes, ends, joined, ProgramWrites}
+use Rattle.lines.proofs.SplitLaws.{none-only, lines-closed}
+use Rattle.lines.proofs.Turns.{stillTo, lines-only, advances-still}
+
+both : (s e : Bool) → (not s && e) ≡ true → (s ≡ false) × (e ≡ true)
+both false e h = (refl, h)
+both true e h = absurd (false≢true h)
+
+no-bytes : (bs : List ℕ) → eqb (length bs) 0 ≡ true → bs ≡ []
+no-bytes [] e = refl
+no-bytes (b ∷ bs) e = let z = eqb-true (suc (length bs)) 0 e in absurd (omega arith)
+
+-- an idle program has nothing to write but for the lines that come in
+idle-still : (m : Place) (more : List ℕ) → idle m ≡ true → stillTo m more ≡ written (m .number) (m .area) (linesFrom (m .held) more)
+idle-still m more e =
+    let b = both (showing m) (eqb (length (m .input)) 0) e in
+    lines-only m more (ltb-false (m .row) mostRows (b .0)) ∙ ap (λ (x : List ℕ). written (m .number) (m .area) (linesFrom (m .held) (x ++ more))) (no-bytes (m .input) (b .1))
+
+-- bytes that are fed to an idle program come before those behind them
+fed-still : (m : Place) (bs more : List ℕ) → idle m ≡ true → stillTo (fedWith m bs) more ≡ stillTo m (bs ++ more)
+fed-still m bs more e =
+    let b = both (showing m) (eqb (length (m .input)) 0) e in
+    lines-only (fedWith m bs) more (ltb-false (m .row) mostRows (b .0)) ∙ sym (idle-still m (bs ++ more) e)
+
+no-lines : (k : ℕ) (l : List ℕ) → written k l (linesFrom none []) ≡ []
+unfolding written linesFrom isNone
+no-lines k l = refl
+
+runs-still : {m : Place} {ps : List (List ℕ)} {t : List ℕ} → Runs m ps t → stillTo m (joined ps) ≡ t
+unfolding joined
+runs-still {ps = ps} (writes {t = t} room a r) = advances-still a (joined ps) ∙ ap (λ (x : List ℕ). t ++ x) (runs-still r)
+runs-still {m = m} (reads {ps = ps} p e r) = sym (fed-still m p (joined ps) e) ∙ runs-still r
+runs-still {m = m} (closes e n r) =
+    idle-still m [] e
+    ∙ ap (written (m .number) (m .area)) (sym (lines-closed (m .held) n))
+    ∙ sym (idle-still m (lf ∷ []) e)
+    ∙ sym (fed-still m (lf ∷ []) [] e)
+    ∙ runs-still r
+runs-still {m = m} (ends e n) = idle-still m [] e ∙ ap (λ (h : Held). written (m .number) (m .area) (linesFrom h [])) (none-only (m .held) n) ∙ no-lines (m .number) (m .area)
+
+pub program-writes : ProgramWrites
+unfolding programWrites
+program-writes ps t r = sym (runs-still r) ∙ idle-still start (joined ps) refl

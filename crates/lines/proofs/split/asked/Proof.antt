@@ -1,0 +1,19 @@
+-- `lines::split::asked` meets its contract. Assumes nothing.
+use borrow.Author.Needs.{needs}
+use mathlib.Core.Path.{_≡_, sym, ap, _∙_}
+use Rattle.lines.specs.Split.{Held, heldAll, said}
+use Rattle.lines.proofs.SplitLaws.{none-only}
+use Rattle.lines.proofs.split.asked.Statement.{statement}
+use Rattle.lines.proofs.split.asked.Tie as tie
+
+returns : tie.Need-returns
+returns c =
+    let a = c .before .before .before .before .args in
+    c .said-whole .ensures
+    ∙ ap (λ (h : Held). said (heldAll h (a .rest .now))) (sym (none-only _ (sym (c .before .before .is-empty .ensures) ∙ c .before .if1 .taken)))
+
+returns-2 : tie.Need-returns-2
+returns-2 c = c .said .ensures ∙ ap said (c .before .then .ensures)
+
+pub asked-spec : {M : Type 1} → statement M
+asked-spec = tie.close (tie.spec (λ c κs. search needs) (λ c κs. search needs) returns (λ c κs. search needs) (λ c κs. search needs) returns-2)

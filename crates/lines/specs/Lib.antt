@@ -1,0 +1,6 @@
+-- What the contracts of `lines` cite, and what the line program writes for an input.
+pub mod Split
+pub mod Written
+pub mod Answers
+pub mod Run
+pub mod Program

@@ -1,0 +1,137 @@
+-- The line program in the middle of its input, and one turn of it.
+--     Place               what it has come to: the line so far and its number, the next row to be shown, the area, the bytes that it
+--                         has not read yet
+--     placeOf             the place that the code has come to
+--     showing             there may be rows to be shown
+--     rowShown, lineRead  the next row shown; a line read and answered, or kept where it does not end yet
+--     turned, turnText    one turn: where it comes to, and what it writes
+--     mostText            no turn writes more
+--     goesOn room m       a turn is taken while there is something to do, and room for what it writes
+--     Advances room m k t turns are taken from m on as long as it goes on: they come to k and write t
+--     runAt, settledRow   a run at another row; the row to go on with, where a bad area has none
+--     placed, Ready, Comes, Shown, Advanced    what the functions of the code ask and promise
+use mathlib.Core.Path.{_≡_}
+use mathlib.Core.Bool.{Bool, true, false, cond, _&&_, _||_}
+use mathlib.Core.List.{List, [], _∷_, _++_}
+use Prim.Native.Nat.{ℕ, suc, _+_, _-_, _≤_}
+use lib.Dec.{ltb, leb}
+use lib.ListN.{length, take, drop}
+use Rattle.area.specs.Layout.{mostRows, goodBytes}
+use Rattle.walker.specs.Walk.{walked, Walkable}
+use Rattle.table.specs.Table.{nth}
+use Rattle.text.specs.Write.{Wrote}
+use Rattle.requests.specs.declared.Request.{Request}
+use Rattle.lines.specs.Split.{Held, none, heldAll, said, beforeLf, heldBy}
+use Rattle.lines.specs.Written.{answerOf, answerText, rowText, after}
+use Rattle.lines.specs.Answers.{firstShown}
+use Rattle.lines.specs.declared.Run.{Run}
+use Rattle.lines.specs.declared.Progress.{Progress}
+
+pub record Place : Type 0 where
+  pub held : Held
+  pub number : ℕ
+  pub row : ℕ
+  pub area : List ℕ
+  pub input : List ℕ
+
+abbrev pub placeOf : Run → List ℕ → List ℕ → Place
+placeOf r l bs = record { held = heldBy (r .line); number = r .number; row = r .row; area = l; input = bs }
+
+-- ---- a row shown
+
+abbrev pub showing : Place → Bool
+showing m = ltb (m .row) mostRows
+
+-- the row of that number is there
+abbrev pub rowThere : Place → Bool
+rowThere m = ltb (m .row) (length (walked (m .area)))
+
+abbrev pub atRow : Place → ℕ → Place
+atRow m i = record { held = m .held; number = m .number; row = i; area = m .area; input = m .input }
+
+unfoldable pub rowShown : Place → Place
+rowShown m = atRow m (cond (rowThere m) (m .row + 1) mostRows)
+
+unfoldable pub shownText : Place → List ℕ
+shownText m = cond (rowThere m) (rowText (nth (m .row) (walked (m .area)))) []
+
+-- ---- a line read
+
+-- the line ends in the input
+abbrev pub lineEnds : Place → Bool
+lineEnds m = ltb (beforeLf (m .input)) (length (m .input))
+
+-- the request that it says, where it does
+abbrev pub asked : Place → Request
+asked m = said (heldAll (m .held) (take (beforeLf (m .input)) (m .input)))
+
+abbrev pub answered : Place → Request → Place
+answered m q = record { held = none; number = after (m .number); row = firstShown (m .area) q; area = answerOf (m .area) q .area; input = drop (suc (beforeLf (m .input))) (m .input) }
+
+abbrev pub kept : Place → Place
+kept m = record { held = heldAll (m .held) (m .input); number = m .number; row = m .row; area = m .area; input = [] }
+
+unfoldable pub lineRead : Place → Place
+lineRead m = cond (lineEnds m) (answered m (asked m)) (kept m)
+
+unfoldable pub lineText : Place → List ℕ
+lineText m = cond (lineEnds m) (answerText (m .number) (answerOf (m .area) (asked m) .answer)) []
+
+-- ---- turns
+
+abbrev pub mostText : ℕ
+mostText = 4096
+
+unfoldable pub turned : Place → Place
+turned m = cond (showing m) (rowShown m) (lineRead m)
+
+unfoldable pub turnText : Place → List ℕ
+turnText m = cond (showing m) (shownText m) (lineText m)
+
+unfoldable pub goesOn : ℕ → Place → Bool
+goesOn room m = leb mostText room && (showing m || ltb 0 (length (m .input)))
+
+pub data Advances : ℕ → Place → Place → List ℕ → Type 0 where
+  stops : {room : ℕ} {m : Place} → goesOn room m ≡ false → Advances room m m []
+  turns : {room : ℕ} {m k : Place} {t : List ℕ} → goesOn room m ≡ true → Advances (room - length (turnText m)) (turned m) k t → Advances room m k (turnText m ++ t)
+
+-- ---- what the code's functions promise
+
+-- the run r at another row; where there are rows to be shown, the area is good
+abbrev pub runAt : Run → ℕ → Run
+runAt r i = record { line = r .line; number = r .number; row = i }
+
+abbrev pub settledRow : List ℕ → ℕ → ℕ
+settledRow l i = cond (ltb i mostRows) (cond (goodBytes l) i mostRows) i
+
+-- where the code has come to on the area l, in the piece bs
+abbrev pub placed : Progress → List ℕ → List ℕ → Place
+placed p l bs = placeOf (p .run) l (drop (p .read) bs)
+
+-- a turn can be taken on the area l, in the piece bs, into the buffer d
+pub record Ready (p : Progress) (l bs d : List ℕ) : Type 0 where
+  pub read : p .read ≤ length bs
+  pub room : p .written + mostText ≤ length d
+  pub walkable : Walkable l (p .run .row)
+
+-- from p on, it comes to m, which is r on the area l in the piece bs, and writes t: e is the buffer d afterwards
+pub record Comes (p : Progress) (m : Place) (t d : List ℕ) (r : Progress) (l bs e : List ℕ) : Type 0 where
+  pub read : r .read ≤ length bs
+  pub place : placed r l bs ≡ m
+  pub wrote : Wrote d (p .written) t e (r .written)
+  pub inside : r .written ≤ length d
+
+-- a row shown, whatever the piece is
+pub record Shown (p : Progress) (l d : List ℕ) (r : Progress) (e : List ℕ) : Type 0 where
+  pub read : r .read ≡ p .read
+  pub place : (bs : List ℕ) → placeOf (r .run) l bs ≡ rowShown (placeOf (p .run) l bs)
+  pub wrote : Wrote d (p .written) (shownText (placeOf (p .run) l [])) e (r .written)
+  pub inside : r .written ≤ length d
+
+-- from the run r on the area l with the input bs, into the buffer d; p, l′ and e are what it came to, the area and the buffer afterwards
+pub record Advanced (r : Run) (l bs d : List ℕ) (p : Progress) (l′ e : List ℕ) : Type 0 where
+  pub text : List ℕ
+  pub read : p .read ≤ length bs
+  pub wrote : Wrote d 0 text e (p .written)
+  pub inside : p .written ≤ length d
+  pub goes : Advances (length d) (placeOf r l bs) (placed p l′ bs) text

@@ -1,0 +1,3 @@
+-- What the contracts and theorems of `requests` cite.
+pub mod Fields
+pub mod Request

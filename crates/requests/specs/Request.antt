@@ -1,0 +1,97 @@
+-- The requests of the line program: their texts, the ranges of their numbers, and what bytes read as.
+--     letterO, letterA, ..     the letters that lines begin with, as bytes
+--     spaced v, spacedSet s    a number and a set, each behind a space
+--     requestText q            the line that asks for q, as document 01 writes it
+--     InRange q                q has a text: its numbers lie in their ranges
+--     byLetter c t             the request of a line with the letter c and then t
+--     requestOf s              the request that a line's bytes say
+use mathlib.Core.Bool.{cond}
+use mathlib.Core.List.{List, [], _∷_, _++_}
+use Prim.Native.Nat.{ℕ, _^_, _≤_, _<_}
+use lib.Dec.{eqb}
+use Rattle.roles.specs.declared.RoleSet.{RoleSet}
+use Rattle.meaning.specs.declared.Happening.{Happening}
+use Rattle.meaning.specs.declared.Happening.the-variants.{Allow, Deny, Given, Withdrawn}
+use Rattle.text.specs.Ascii.{space}
+use Rattle.text.specs.Number.{numberText}
+use Rattle.text.specs.Set.{lastRole, mostRoles, setText}
+use Rattle.requests.specs.Fields.{lastCount, lastPermission, ended, lastNumber, permissionSet, permissionRole}
+use Rattle.requests.specs.declared.Request.{Request}
+use Rattle.requests.specs.declared.Request.the-variants.{Open, Told, Decide, Forget, Show, Unreadable}
+
+abbrev pub letterO : ℕ
+letterO = 79
+
+abbrev pub letterA : ℕ
+letterA = 65
+
+abbrev pub letterD : ℕ
+letterD = 68
+
+abbrev pub letterG : ℕ
+letterG = 71
+
+abbrev pub letterR : ℕ
+letterR = 82
+
+abbrev pub letterQ : ℕ
+letterQ = 81
+
+abbrev pub letterF : ℕ
+letterF = 70
+
+abbrev pub letterS : ℕ
+letterS = 83
+
+abbrev pub spaced : ℕ → List ℕ
+spaced v = space ∷ numberText v
+
+abbrev pub spacedSet : RoleSet → List ℕ
+spacedSet s = space ∷ setText (s .bits)
+
+unfoldable pub eventText : ℕ → Happening → List ℕ
+eventText p (Allow s) = letterA ∷ (spaced p ++ spacedSet s)
+eventText p (Deny s) = letterD ∷ (spaced p ++ spacedSet s)
+eventText p (Given r) = letterG ∷ (spaced p ++ spaced r)
+eventText p (Withdrawn r) = letterR ∷ (spaced p ++ spaced r)
+
+unfoldable pub requestText : Request → List ℕ
+requestText (Open n) = letterO ∷ spaced n
+requestText (Told e) = eventText (e .permission) (e .happening)
+requestText (Decide p s) = letterQ ∷ (spaced p ++ spacedSet s)
+requestText (Forget p) = letterF ∷ spaced p
+requestText Show = letterS ∷ []
+requestText Unreadable = []
+
+abbrev pub HappeningInRange : Happening → Type 0
+HappeningInRange (Allow s) = s .bits < 2 ^ mostRoles
+HappeningInRange (Deny s) = s .bits < 2 ^ mostRoles
+HappeningInRange (Given r) = r ≤ lastRole
+HappeningInRange (Withdrawn r) = r ≤ lastRole
+
+abbrev pub InRange : Request → Type 0
+InRange (Open n) = n ≤ lastCount
+InRange (Told e) = (e .permission ≤ lastPermission) × HappeningInRange (e .happening)
+InRange (Decide p s) = (p ≤ lastPermission) × (s .bits < 2 ^ mostRoles)
+InRange (Forget p) = p ≤ lastPermission
+InRange Show = Unit {0}
+InRange Unreadable = ⊥
+
+abbrev pub told : ℕ → Happening → Request
+told p h = Told (record { permission = p; happening = h })
+
+unfoldable pub byLetter : ℕ → List ℕ → Request
+byLetter c t =
+    cond (eqb c letterO) (lastNumber Unreadable Open lastCount t)
+    (cond (eqb c letterA) (permissionSet Unreadable (λ p s. told p (Allow s)) t)
+    (cond (eqb c letterD) (permissionSet Unreadable (λ p s. told p (Deny s)) t)
+    (cond (eqb c letterG) (permissionRole Unreadable (λ p r. told p (Given r)) t)
+    (cond (eqb c letterR) (permissionRole Unreadable (λ p r. told p (Withdrawn r)) t)
+    (cond (eqb c letterQ) (permissionSet Unreadable Decide t)
+    (cond (eqb c letterF) (lastNumber Unreadable Forget lastPermission t)
+    (cond (eqb c letterS) (ended Unreadable Show t)
+    Unreadable)))))))
+
+unfoldable pub requestOf : List ℕ → Request
+requestOf [] = Unreadable
+requestOf (c ∷ t) = byLetter c t

@@ -1,0 +1,241 @@
+// One line of bytes, read as a request of the line program.
+use meaning::Event;
+use meaning::Happening;
+use roles::RoleSet;
+use text::NumberField;
+use text::SetField;
+ghost use mathlib.Core.Path.{_≡_};
+ghost use Prim.Native.Nat.{_^_, _<_};
+ghost use lib.ListN.{drop};
+ghost use Rattle.text.specs.Number.{readNumber};
+ghost use Rattle.text.specs.Set.{readSet};
+ghost use Rattle.text.specs.Field.{numberField, setField};
+ghost use Rattle.requests.specs.Fields.{fieldOf, lastNumber, permissionSet, permissionRole};
+ghost use Rattle.requests.specs.Request.{letterO, letterA, letterD, letterG, letterR, letterQ, letterF, letterS, byLetter, requestOf};
+
+// The largest role count that a line can say.
+const LAST_COUNT: u64 = 255;
+
+// The largest permission.
+const LAST_PERMISSION: u64 = 4294967295;
+
+// The largest role.
+const LAST_ROLE: u64 = 63;
+
+// What a line asks for.
+pub enum Request {
+    Open(u64),
+    Told(Event),
+    Decide(u32, RoleSet),
+    Forget(u32),
+    Show,
+    Unreadable,
+}
+
+// A number that is the last field.
+enum LastNumber {
+    Value(u64),
+    Bad,
+}
+
+// The fields `p set`.
+enum PermissionSet {
+    Read { permission: u32, set: RoleSet },
+    Bad,
+}
+
+// The fields `p r`.
+enum PermissionRole {
+    Read { permission: u32, role: u64 },
+    Bad,
+}
+
+// The place of the field behind the space at the place `at`; without a space the line's end, where no field reads.
+fn field_at(line: &[u8], at: usize) -> usize
+    ensures { λ r. ⌜ drop r (now (line .entry)) ≡ fieldOf (drop at (now (line .entry))) ⌝ }
+{
+    if text::byte_at(line, at, b' ') {
+        at + 1
+    } else {
+        line.len()
+    }
+}
+
+// A number of at most the limit, behind the space at the place `at`.
+fn number_field(line: &[u8], at: usize, limit: u64) -> NumberField
+    requires { ⌜ limit < 2 ^ 32 ⌝ }
+    ensures { λ r. ⌜ r ≡ numberField (now (line .entry)) (readNumber limit (fieldOf (drop at (now (line .entry))))) ⌝ }
+{
+    text::read_number(line, field_at(line, at), limit)
+}
+
+// A set, behind the space at the place `at`.
+fn set_field(line: &[u8], at: usize) -> SetField
+    ensures { λ r. ⌜ r ≡ setField (now (line .entry)) (readSet (fieldOf (drop at (now (line .entry))))) ⌝ }
+{
+    text::read_set(line, field_at(line, at))
+}
+
+// A number of at most the limit, from the space at the place `at` to the end of the line.
+fn last_number(line: &[u8], at: usize, limit: u64) -> LastNumber
+    requires { ⌜ limit < 2 ^ 32 ⌝ }
+    ensures { λ r. ⌜ r ≡ lastNumber LastNumber.Bad LastNumber.Value limit (drop at (now (line .entry))) ⌝ }
+{
+    let NumberField::Read { value, next } = number_field(line, at, limit) else {
+        return LastNumber::Bad;
+    };
+    if next == line.len() {
+        LastNumber::Value(value)
+    } else {
+        LastNumber::Bad
+    }
+}
+
+// A permission and a set, behind the letter to the end of the line.
+fn permission_set(line: &[u8]) -> PermissionSet
+    ensures { λ r. ⌜ r ≡ permissionSet PermissionSet.Bad PermissionSet.Read (drop 1 (now (line .entry))) ⌝ }
+{
+    let NumberField::Read { value, next } = number_field(line, 1, LAST_PERMISSION) else {
+        return PermissionSet::Bad;
+    };
+    let SetField::Read { set, next: end } = set_field(line, next) else {
+        return PermissionSet::Bad;
+    };
+    if end == line.len() {
+        PermissionSet::Read {
+            permission: value as u32,
+            set,
+        }
+    } else {
+        PermissionSet::Bad
+    }
+}
+
+// A permission and a role, behind the letter to the end of the line.
+fn permission_role(line: &[u8]) -> PermissionRole
+    ensures { λ r. ⌜ r ≡ permissionRole PermissionRole.Bad PermissionRole.Read (drop 1 (now (line .entry))) ⌝ }
+{
+    let NumberField::Read { value, next } = number_field(line, 1, LAST_PERMISSION) else {
+        return PermissionRole::Bad;
+    };
+    let LastNumber::Value(role) = last_number(line, next, LAST_ROLE) else {
+        return PermissionRole::Bad;
+    };
+    PermissionRole::Read {
+        permission: value as u32,
+        role,
+    }
+}
+
+// `O n`
+fn open_of(line: &[u8]) -> Request
+    ensures { λ r. ⌜ r ≡ byLetter letterO (drop 1 (now (line .entry))) ⌝ }
+{
+    let LastNumber::Value(n) = last_number(line, 1, LAST_COUNT) else {
+        return Request::Unreadable;
+    };
+    Request::Open(n)
+}
+
+// `A p set`
+fn allow_of(line: &[u8]) -> Request
+    ensures { λ r. ⌜ r ≡ byLetter letterA (drop 1 (now (line .entry))) ⌝ }
+{
+    let PermissionSet::Read { permission, set } = permission_set(line) else {
+        return Request::Unreadable;
+    };
+    Request::Told(Event {
+        permission,
+        happening: Happening::Allow(set),
+    })
+}
+
+// `D p set`
+fn deny_of(line: &[u8]) -> Request
+    ensures { λ r. ⌜ r ≡ byLetter letterD (drop 1 (now (line .entry))) ⌝ }
+{
+    let PermissionSet::Read { permission, set } = permission_set(line) else {
+        return Request::Unreadable;
+    };
+    Request::Told(Event {
+        permission,
+        happening: Happening::Deny(set),
+    })
+}
+
+// `G p r`
+fn given_of(line: &[u8]) -> Request
+    ensures { λ r. ⌜ r ≡ byLetter letterG (drop 1 (now (line .entry))) ⌝ }
+{
+    let PermissionRole::Read { permission, role } = permission_role(line) else {
+        return Request::Unreadable;
+    };
+    Request::Told(Event {
+        permission,
+        happening: Happening::Given(role),
+    })
+}
+
+// `R p r`
+fn withdrawn_of(line: &[u8]) -> Request
+    ensures { λ r. ⌜ r ≡ byLetter letterR (drop 1 (now (line .entry))) ⌝ }
+{
+    let PermissionRole::Read { permission, role } = permission_role(line) else {
+        return Request::Unreadable;
+    };
+    Request::Told(Event {
+        permission,
+        happening: Happening::Withdrawn(role),
+    })
+}
+
+// `Q p set`
+fn decide_of(line: &[u8]) -> Request
+    ensures { λ r. ⌜ r ≡ byLetter letterQ (drop 1 (now (line .entry))) ⌝ }
+{
+    let PermissionSet::Read { permission, set } = permission_set(line) else {
+        return Request::Unreadable;
+    };
+    Request::Decide(permission, set)
+}
+
+// `F p`
+fn forget_of(line: &[u8]) -> Request
+    ensures { λ r. ⌜ r ≡ byLetter letterF (drop 1 (now (line .entry))) ⌝ }
+{
+    let LastNumber::Value(p) = last_number(line, 1, LAST_PERMISSION) else {
+        return Request::Unreadable;
+    };
+    Request::Forget(p as u32)
+}
+
+// `S`
+fn show_of(line: &[u8]) -> Request
+    ensures { λ r. ⌜ r ≡ byLetter letterS (drop 1 (now (line .entry))) ⌝ }
+{
+    if line.len() <= 1 {
+        Request::Show
+    } else {
+        Request::Unreadable
+    }
+}
+
+// The request that a line's bytes say.
+pub fn read_request(line: &[u8]) -> Request
+    ensures { λ r. ⌜ r ≡ requestOf (now (line .entry)) ⌝ }
+{
+    if line.len() == 0 {
+        return Request::Unreadable;
+    }
+    match line[0] {
+        b'O' => open_of(line),
+        b'A' => allow_of(line),
+        b'D' => deny_of(line),
+        b'G' => given_of(line),
+        b'R' => withdrawn_of(line),
+        b'Q' => decide_of(line),
+        b'F' => forget_of(line),
+        b'S' => show_of(line),
+        _ => Request::Unreadable,
+    }
+}

@@ -1,0 +1,6 @@
+-- What the contracts of `text` cite.
+pub mod Ascii
+pub mod Number
+pub mod Set
+pub mod Field
+pub mod Write
