@@ -1,35 +1,32 @@
 -- The places that the code's functions come to. Assumes nothing.
-use mathlib.Core.Path.{_≡_, refl, sym, ap, ap₂, _∙_, subst}
+use mathlib.Core.Path.{_≡_, refl, sym, ap, ap₂, _∙_}
 use mathlib.Core.Bool.{Bool, true, false, cond, true≢false, false≢true}
-use mathlib.Core.List.{List, [], _∷_, _++_}
-use Prim.Native.Nat.{ℕ, suc, _+_, _-_, _≤_, _<_, _^_, _%_}
+use mathlib.Core.List.{List, []}
+use Prim.Native.Nat.{ℕ, suc, _+_, _-_, _≤_, _<_}
 use native.Mathlib.Nat.{add-zero}
-use native.Mathlib.Numerals.{add-one}
 use native.Mathlib.Omega.{arith}
 use borrow.Author.Tests.{lt-ltb, le-ltb, ltb-true}
-use lib.Dec.{T, ltb}
+use lib.Dec.{ltb}
 use lib.ListN.{length, take, drop, length-drop, drop-of-length-le}
 use lib.Seq.{drop-drop, take-all}
 use Rattle.area.specs.Layout.{mostRows, goodBytes}
-use Rattle.area.specs.State.{Entry, stateOf}
+use Rattle.area.specs.State.{stateOf}
 use Rattle.area.proofs.RowLaws.{GoodEntry, row-good}
 use Rattle.area.proofs.Bytes.{good-state}
 use Rattle.meaning.specs.Rows.{mostOpens}
-use Rattle.rows.specs.Stored.{Tidy, rowOf, storedRow, stored}
+use Rattle.rows.specs.Stored.{Tidy, rowOf}
 use Rattle.rows.proofs.Padded.{stored⇒tidy, stored⇒row}
-use Rattle.table.specs.Table.{Sound, rowsIn, nth, entry}
-use Rattle.table.proofs.RowWords.{sound}
+use Rattle.table.specs.Table.{rowsIn, nth, entry}
 use Rattle.walker.specs.Walk.{walked, given, none, handed, Walkable}
 use Rattle.walker.specs.declared.Handed.{Handed}
 use Rattle.walker.proofs.WalkLaws.{walked-good, walked-few}
 use Rattle.text.specs.Write.{Wrote}
 use Rattle.requests.specs.declared.Request.{Request}
 use Rattle.lines.specs.Split as split
-use Rattle.lines.specs.Split.{Held, heldAll, said, beforeLf, heldBy}
-use Rattle.lines.specs.Written.{answerOf, answerText, rowText, after}
-use Rattle.lines.specs.Answers.{firstShown, Answers}
-use Rattle.lines.specs.Run.{Place, placeOf, rowThere, rowShown, shownText, lineEnds, asked, lineRead, lineText, mostText, runAt, settledRow, placed, Comes, Shown}
-use Rattle.lines.specs.declared.Run.{Run}
+use Rattle.lines.specs.Split.{heldAll, said, beforeLf, heldBy}
+use Rattle.lines.specs.Written.{answerText, rowText, after}
+use Rattle.lines.specs.Answers.{Answers}
+use Rattle.lines.specs.Run.{rowShown, shownText, asked, lineRead, lineText, mostText, runAt, settledRow, placed, Comes, Shown}
 use Rattle.lines.specs.declared.Progress.{Progress}
 use Rattle.lines.specs.declared.split.Splitter.{Splitter}
 use Rattle.lines.specs.declared.answer.Answered.{Answered}

@@ -1,18 +1,18 @@
 -- What the program writes is a function of the bytes of its input alone. Assumes nothing.
 use mathlib.Core.Path.{_≡_, refl, sym, ap, _∙_}
 use mathlib.Core.Bool.{Bool, true, false, not, _&&_, false≢true}
-use mathlib.Core.List.{List, [], _∷_, _++_, append-nil}
-use Prim.Native.Nat.{ℕ, suc, _≤_}
+use mathlib.Core.List.{List, [], _∷_, _++_}
+use Prim.Native.Nat.{ℕ, suc}
 use native.Mathlib.Omega.{arith}
 use borrow.Author.Tests.{ltb-false, eqb-true}
-use lib.Dec.{eqb, ltb}
+use lib.Dec.{eqb}
 use lib.ListN.{length}
 use Rattle.area.specs.Layout.{mostRows}
 use Rattle.text.specs.Ascii.{lf}
-use Rattle.lines.specs.Split.{Held, none, isNone, linesFrom}
+use Rattle.lines.specs.Split.{Held, none, isNone, linesFrom, joined}
 use Rattle.lines.specs.Written.{written, programWrites}
 use Rattle.lines.specs.Run.{Place, showing}
-use Rattle.lines.specs.Program.{start, idle, fedWith, Runs, writes, reads, closes, ends, joined, ProgramWrites}
+use Rattle.lines.specs.Program.{start, idle, fedWith, Runs, writes, reads, closes, ends, ProgramWrites}
 use Rattle.lines.proofs.SplitLaws.{none-only, lines-closed}
 use Rattle.lines.proofs.Turns.{stillTo, lines-only, advances-still}
 

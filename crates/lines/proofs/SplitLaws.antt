@@ -7,13 +7,13 @@ use Prim.Native.Nat.{ℕ, zero, suc, _+_, _≤_, _<_}
 use native.Mathlib.Decide.{decLt, decLe}
 use native.Mathlib.Numerals.{add-one}
 use native.Mathlib.Omega.{arith}
-use borrow.Author.Tests.{eq-eqb, ne-eqb, eqb-true, lt-ltb, le-ltb, le-leb, lt-leb}
+use borrow.Author.Tests.{ne-eqb, lt-ltb, le-ltb, le-leb, lt-leb}
 use lib.Dec.{eqb, eqb·suc-zero}
 use lib.ListN.{length, take, drop, getD, set, length-append, drop-of-length-le}
 use lib.Seq.{take-suc, take-suc-set}
 use Rattle.text.specs.Ascii.{lf}
 use Rattle.meaning.proofs.Walks.{drop-next}
-use Rattle.lines.specs.Split.{mostBytes, Held, short, long, none, isNone, heldThen, heldAll, linesFrom, beforeLf, heldBy}
+use Rattle.lines.specs.Split.{mostBytes, Held, short, long, none, isNone, heldThen, heldAll, linesFrom, ended, left, linesCut, joined, beforeLf, heldBy}
 use Rattle.lines.specs.declared.split.Splitter.{Splitter}
 
 -- ---- what a splitter keeps
@@ -126,3 +126,22 @@ lines-open h (b ∷ bs) more k = go (eqb b lf) (λ k′. lines-open (heldThen h 
 pub lines-closed : (h : Held) → isNone h ≡ false → linesFrom h (lf ∷ []) ≡ linesFrom h []
 unfolding linesFrom isNone
 lines-closed h e = rw e refl
+
+-- ---- any cutting into pieces gives the same lines
+
+cut-once : (h : Held) (bs more : List ℕ) → linesFrom h (bs ++ more) ≡ ended h bs ++ linesFrom (left h bs) more
+unfolding linesFrom ended left
+cut-once h [] more = refl
+cut-once h (b ∷ bs) more = go (eqb b lf) (cut-once none bs more) (cut-once (heldThen h b) bs more)
+  where
+    go : (t : Bool) → linesFrom none (bs ++ more) ≡ ended none bs ++ linesFrom (left none bs) more
+        → linesFrom (heldThen h b) (bs ++ more) ≡ ended (heldThen h b) bs ++ linesFrom (left (heldThen h b) bs) more
+        → cond t (h ∷ linesFrom none (bs ++ more)) (linesFrom (heldThen h b) (bs ++ more))
+        ≡ cond t (h ∷ ended none bs) (ended (heldThen h b) bs) ++ linesFrom (cond t (left none bs) (left (heldThen h b) bs)) more
+    go true e f = ap (λ (x : List Held). h ∷ x) e
+    go false e f = f
+
+pub any-cut : (h : Held) (ps : List (List ℕ)) → linesCut h ps ≡ linesFrom h (joined ps)
+unfolding linesCut joined
+any-cut h [] = refl
+any-cut h (p ∷ ps) = ap (λ (x : List Held). ended h p ++ x) (any-cut (left h p) ps) ∙ sym (cut-once h p (joined ps))

@@ -1,15 +1,15 @@
 -- Turns of the code, one after another: each comes where a turn comes, goes on from there, and they end. Assumes nothing.
-use mathlib.Core.Path.{_≡_, refl, sym, ap, ap₂, _∙_, subst, subst⁻¹}
+use mathlib.Core.Path.{_≡_, refl, sym, ap, subst, subst⁻¹}
 use mathlib.Core.Bool.{Bool, true, false, cond, _&&_, _||_, true≢false, false≢true}
-use mathlib.Core.List.{List, [], _∷_, _++_, append-nil, append-assoc}
+use mathlib.Core.List.{List, [], _++_, append-nil, append-assoc}
 use Prim.Native.Nat.{ℕ, suc, _+_, _-_, _*_, _≤_, _<_}
 use native.Mathlib.Omega.{arith}
 use borrow.Author.Tests.{lt-ltb, le-ltb, ltb-true, ltb-false, leb-true, le-leb, lt-leb}
 use lib.Dec.{leb, ltb}
-use lib.ListN.{length, drop, length-drop, length-append}
+use lib.ListN.{length, drop, length-drop}
 use Rattle.area.specs.Layout.{mostRows, goodBytes}
 use Rattle.table.proofs.RowWords.{sound}
-use Rattle.walker.specs.Walk.{walked, firstRow, Walkable}
+use Rattle.walker.specs.Walk.{walked, Walkable}
 use Rattle.walker.proofs.WalkLaws.{walked-bad, first-walkable}
 use Rattle.text.specs.Write.{Wrote}
 use Rattle.text.proofs.WriteLaws.{wrote-then, wrote-length}

@@ -1,13 +1,12 @@
 -- Texts written part by part into a buffer that has room for the whole, and how long they are. Assumes nothing.
-use mathlib.Core.Path.{_≡_, refl, ap, _∙_}
+use mathlib.Core.Path.{_≡_, refl}
 use mathlib.Core.List.{List, [], _∷_, _++_}
 use Prim.Native.Nat.{ℕ, _+_, _*_, _≤_, _<_, _^_}
 use native.Mathlib.Numerals.{add-one}
 use native.Mathlib.Omega.{arith}
 use lib.ListN.{length, drop, getD, length-append, drop-of-length-le}
 use lib.Seq.{drop-cons}
-use Rattle.text.specs.Ascii.{space, lf}
-use Rattle.text.specs.Number.{numberText}
+use Rattle.text.specs.Ascii.{space}
 use Rattle.text.specs.Set.{setText}
 use Rattle.text.specs.Write.{Wrote}
 use Rattle.text.proofs.WriteLaws.{wrote-length}

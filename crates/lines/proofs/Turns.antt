@@ -1,24 +1,22 @@
 -- Turns of the line program: each writes the next part of what is still to be written, whatever comes in behind it. Assumes nothing.
-use mathlib.Core.Path.{_≡_, refl, sym, ap, ap₂, _∙_}
-use mathlib.Core.Bool.{Bool, true, false, cond, not, _&&_, true≢false, false≢true}
-use mathlib.Core.List.{List, [], _∷_, _++_, append-nil, append-assoc}
+use mathlib.Core.Path.{_≡_, refl, sym, ap, _∙_}
+use mathlib.Core.Bool.{Bool, true, false, cond, true≢false}
+use mathlib.Core.List.{List, [], _++_, append-assoc}
 use Prim.Native.Nat.{ℕ, suc, _+_, _-_, _≤_, _<_}
 use native.Mathlib.Numerals.{add-one}
 use native.Mathlib.Omega.{arith}
-use borrow.Author.Tests.{ltb-true, ltb-false, eqb-true}
-use lib.Dec.{eqb, ltb}
-use lib.ListN.{length, take, drop, getD, length-append, drop-of-length-le}
+use borrow.Author.Tests.{ltb-true, ltb-false}
+use lib.ListN.{length, drop, length-append, drop-of-length-le}
 use lib.Seq.{drop-cons}
 use Rattle.area.specs.Layout.{mostRows, goodBytes}
-use Rattle.area.specs.State.{Entry}
 use Rattle.table.specs.Table.{nth, entry}
 use Rattle.meaning.specs.Rows.{blank}
 use Rattle.walker.specs.Walk.{walked, firstRow}
 use Rattle.walker.proofs.WalkLaws.{walked-few, walked-bad, first-good, first-bad}
 use Rattle.requests.specs.declared.Request.{Request}
 use Rattle.requests.specs.declared.Request.the-variants.{Open, Told, Decide, Forget, Show, Unreadable}
-use Rattle.lines.specs.Split.{Held, none, isNone, heldAll, linesFrom, said, beforeLf}
-use Rattle.lines.specs.Written.{answerOf, shown, answerText, rowText, rowsText, after, lineWritten, written, programWrites}
+use Rattle.lines.specs.Split.{none, heldAll, linesFrom, beforeLf}
+use Rattle.lines.specs.Written.{answerOf, shown, answerText, rowText, rowsText, after, lineWritten, written}
 use Rattle.lines.specs.Answers.{firstShown}
 use Rattle.lines.specs.Run.{Place, showing, rowThere, rowShown, shownText, lineEnds, asked, answered, kept, lineRead, lineText, turned, turnText, goesOn, Advances, stops, turns}
 use Rattle.lines.proofs.SplitLaws.{lines-ended, lines-open}

@@ -3,7 +3,6 @@
 --     start              before the first byte
 --     idle               all that came in is read, and all that is to be shown is shown
 --     Runs m ps t        from m on, fed with the pieces ps, the program writes t and ends
---     joined ps          the pieces, one behind the other
 --     ProgramWrites      the theorem
 use mathlib.Core.Path.{_≡_}
 use mathlib.Core.Bool.{Bool, true, false, not, _&&_}
@@ -13,7 +12,7 @@ use lib.Dec.{eqb}
 use lib.ListN.{length, replicate}
 use Rattle.area.specs.Layout.{mostRows, areaBytes}
 use Rattle.text.specs.Ascii.{lf}
-use Rattle.lines.specs.Split.{none, isNone}
+use Rattle.lines.specs.Split.{none, isNone, joined}
 use Rattle.lines.specs.Written.{programWrites}
 use Rattle.lines.specs.Run.{Place, showing, Advances}
 
@@ -33,10 +32,6 @@ pub data Runs : Place → List (List ℕ) → List ℕ → Type 0 where
   reads : {m : Place} {ps : List (List ℕ)} {u : List ℕ} (p : List ℕ) → idle m ≡ true → Runs (fedWith m p) ps u → Runs m (p ∷ ps) u
   closes : {m : Place} {u : List ℕ} → idle m ≡ true → isNone (m .held) ≡ false → Runs (fedWith m (lf ∷ [])) [] u → Runs m [] u
   ends : {m : Place} → idle m ≡ true → isNone (m .held) ≡ true → Runs m [] []
-
-unfoldable pub joined : List (List ℕ) → List ℕ
-joined [] = []
-joined (p ∷ ps) = p ++ joined ps
 
 abbrev pub ProgramWrites : Type 0
 ProgramWrites = (ps : List (List ℕ)) (t : List ℕ) → Runs start ps t → t ≡ programWrites (joined ps)

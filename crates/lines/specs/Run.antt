@@ -12,7 +12,7 @@
 --     placed, Ready, Comes, Shown, Advanced    what the functions of the code ask and promise
 use mathlib.Core.Path.{_≡_}
 use mathlib.Core.Bool.{Bool, true, false, cond, _&&_, _||_}
-use mathlib.Core.List.{List, [], _∷_, _++_}
+use mathlib.Core.List.{List, [], _++_}
 use Prim.Native.Nat.{ℕ, suc, _+_, _-_, _≤_}
 use lib.Dec.{ltb, leb}
 use lib.ListN.{length, take, drop}

@@ -6,6 +6,9 @@
 --     heldThen, heldAll  one byte more; bytes more
 --     linesFrom h bs     the lines of the input bs, where h is what the first has already
 --     linesOf            the lines of an input
+--     ended, left        the lines that end within bytes, and what is held of the next behind them
+--     linesCut h ps      the lines of an input that comes in the pieces ps
+--     joined ps          the pieces, one behind the other
 --     said h             the request that a line says: one that is too long is unreadable
 --     beforeLf bs        how many bytes stand before the first LF
 --     heldBy             the line that the code's splitter keeps
@@ -49,6 +52,22 @@ linesFrom h (b ∷ bs) = cond (eqb b lf) (h ∷ linesFrom none bs) (linesFrom (h
 
 abbrev pub linesOf : List ℕ → List Held
 linesOf bs = linesFrom none bs
+
+unfoldable pub ended : Held → List ℕ → List Held
+ended h [] = []
+ended h (b ∷ bs) = cond (eqb b lf) (h ∷ ended none bs) (ended (heldThen h b) bs)
+
+unfoldable pub left : Held → List ℕ → Held
+left h [] = h
+left h (b ∷ bs) = cond (eqb b lf) (left none bs) (left (heldThen h b) bs)
+
+unfoldable pub linesCut : Held → List (List ℕ) → List Held
+linesCut h [] = linesFrom h []
+linesCut h (p ∷ ps) = ended h p ++ linesCut (left h p) ps
+
+unfoldable pub joined : List (List ℕ) → List ℕ
+joined [] = []
+joined (p ∷ ps) = p ++ joined ps
 
 unfoldable pub said : Held → Request
 said (short l) = requestOf l

@@ -1,5 +1,4 @@
 -- `lines::show_row` meets its contract. Assumes nothing.
-use borrow.Author.Needs.{needs}
 use native.Mathlib.Omega.{arith}
 use Rattle.text.proofs.WriteLaws.{wrote-length}
 use Rattle.lines.proofs.Places.{handed-tidy, handed-room, row-shown, no-row-shown}

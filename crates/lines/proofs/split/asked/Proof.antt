@@ -1,6 +1,6 @@
 -- `lines::split::asked` meets its contract. Assumes nothing.
 use borrow.Author.Needs.{needs}
-use mathlib.Core.Path.{_≡_, sym, ap, _∙_}
+use mathlib.Core.Path.{sym, ap, _∙_}
 use Rattle.lines.specs.Split.{Held, heldAll, said}
 use Rattle.lines.proofs.SplitLaws.{none-only}
 use Rattle.lines.proofs.split.asked.Statement.{statement}

@@ -1,9 +1,9 @@
 -- `lines::split::line_end` meets its contract: from each place passed, the first LF is the same. Assumes nothing.
 use borrow.Author.Needs.{needs}
-use mathlib.Core.Path.{_≡_, sym, _∙_}
+use mathlib.Core.Path.{_≡_}
 use Prim.Native.Nat.{_+_, _-_}
 use native.Mathlib.Omega.{arith}
-use lib.ListN.{length, drop, getD}
+use lib.ListN.{length, drop}
 use Rattle.lines.specs.Split.{beforeLf}
 use Rattle.lines.proofs.SplitLaws.{before-hit, before-miss, before-end}
 use Rattle.lines.proofs.split.line_end.Statement.{statement}

@@ -1,7 +1,7 @@
 -- `lines::split::said_whole` meets its contract. Assumes nothing.
 use borrow.Author.Needs.{needs}
 use mathlib.Core.List.{[]}
-use mathlib.Core.Path.{_≡_, sym, ap, _∙_}
+use mathlib.Core.Path.{sym, ap, _∙_}
 use native.Mathlib.Omega.{arith}
 use Rattle.lines.specs.Split.{said}
 use Rattle.lines.proofs.SplitLaws.{all-fits, all-over}

@@ -1,5 +1,4 @@
 -- `lines::write::write_answer` meets its contract. Assumes nothing.
-use borrow.Author.Needs.{needs}
 use mathlib.Core.List.{List, [], _∷_, _++_}
 use Prim.Native.Nat.{ℕ, _+_, _≤_, _<_}
 use native.Mathlib.Omega.{arith}

@@ -1,12 +1,5 @@
 -- `Splitter::is_empty` meets its contract. Assumes nothing.
 use borrow.Author.Needs.{needs}
-use mathlib.Core.Logic.{by-cases}
-use mathlib.Core.Path.{_≡_}
-use Prim.Native.Nat.{_≤_}
-use native.Mathlib.Decide.{decLe}
-use native.Mathlib.Omega.{arith}
-use lib.ListN.{length}
-use Rattle.lines.specs.Split.{mostBytes}
 use Rattle.lines.proofs.SplitLaws.{empty-none}
 use Rattle.lines.proofs.split.Splitter.is_empty.Statement.{statement}
 use Rattle.lines.proofs.split.Splitter.is_empty.Tie as tie
