@@ -1,32 +1,25 @@
--- What the functions of the check cite: tests joined, runs of words in the layout, and open sets from the last to the first. Assumes nothing.
+-- What the functions of the check cite: runs of words in the layout, rows of zeros, and the rules as tests. Assumes nothing.
 use mathlib.Core.Path.{_≡_, refl, sym, ap, ap₂, _∙_, subst}
 use mathlib.Core.Bool.{Bool, true, false, not, _&&_, _||_, and-true, and-false}
-use mathlib.Core.List.{List, [], _∷_, _++_}
-use mathlib.Core.Logic.{inl, inr, ⊎-elim}
-use Prim.Native.Nat.{ℕ, zero, suc, _+_, _-_, _*_, _%_, _^_, _≤_, _<_}
+use mathlib.Core.List.{List, _∷_}
+use Prim.Native.Nat.{ℕ, _+_, _-_, _*_, _^_, _≤_, _<_}
 use native.Mathlib.Numerals.{add-one}
 use native.Mathlib.Nat.{add-zero, add-mul}
-use native.Mathlib.Decide.{ℕ-discrete, decLt}
 use native.Mathlib.Omega.{arith}
-use borrow.Author.Tests.{lt-ltb, le-ltb, le-leb, lt-leb, eq-eqb, ne-eqb}
-use lib.Dec.{T, T-not, not-T, eqb, ltb, leb, lt→ltb, ltb→lt, le→leb, leb→le}
+use borrow.Author.Tests.{le-leb, lt-leb}
+use lib.Dec.{T, eqb, ltb, leb, lt→ltb, ltb→lt, le→leb, leb→le}
 use lib.ListN.{length, getD, take, drop, length-take, length-drop}
 use lib.Pow.{pow-pos}
 use lib.Seq.{take-all, take-take, drop-drop, getD-take, getD-drop, ext-getD}
 use Rattle.words.specs.Words.{words, Spans, allZero}
 use Rattle.words.proofs.Laws.{length-words}
 use Rattle.words.proofs.Runs.{run-drop, allZero-split}
-use Rattle.roles.specs.Sets.{In, shares, partOf, joined, allBelow}
-use Rattle.roles.proofs.Member.{T-and, T-ext, T-or, in-empty, in-joined, partOf-law, shares-law}
-use Rattle.roles.proofs.Laws.{partOf-trans, shares-at}
-use Rattle.meaning.specs.Lists.{Mem, any}
-use Rattle.meaning.specs.Rows.{hasPart, mostOpens}
-use Rattle.meaning.proofs.ListLaws.{none-law}
-use Rattle.area.specs.Layout.{mostRoles, mostRows, areaWords, areaBytes, contentWords, bodyWords, contentsAt, bodiesAt, lastPermission, roleCount, rowsUsed, contents, bodies, permissionAt, countAt, deniedAt, placesAt, permissionBefore, allOf, eachBelow, belowFirst, opensGood, goodRowAt, goodArea}
+use Rattle.roles.specs.Sets.{allBelow}
+use Rattle.roles.proofs.Member.{T-ext}
+use Rattle.meaning.specs.Rows.{mostOpens}
+use Rattle.area.specs.Layout.{mostRoles, mostRows, areaWords, areaBytes, contentWords, bodyWords, contentsAt, bodiesAt, lastPermission, roleCount, rowsUsed, contents, bodies, permissionAt, countAt, deniedAt, placesAt, permissionBefore, eachBelow, opensGood, goodRowAt, goodArea}
 use Rattle.area.specs.Parts.{placesGood, zeroRows}
 use Rattle.area.proofs.Rules.{eachBelow-law}
-
--- ---- tests joined
 
 -- tests as code joins them, and as a list of rules does
 regrouped : (a b c d z o : Bool) → ((((a && b) && c) && d) && (z && o)) ≡ (a && (b && (c && (d && (o && (z && true))))))

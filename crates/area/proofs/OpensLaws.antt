@@ -7,7 +7,7 @@ use Prim.Native.Nat.{ℕ, zero, suc, _^_, _≤_, _<_}
 use native.Mathlib.Decide.{ℕ-discrete}
 use native.Mathlib.Omega.{arith}
 use borrow.Author.Tests.{le-leb, lt-leb, eq-eqb, ne-eqb}
-use lib.Dec.{T, T-not, not-T, eqb, ltb, leb, lt→ltb, ltb→lt, le→leb, leb→le, eqb→eq, eqb-refl}
+use lib.Dec.{T, T-not, not-T, eqb, leb, lt→ltb, ltb→lt, le→leb, leb→le, eqb→eq, eqb-refl}
 use lib.ListN.{take, drop}
 use lib.Pow.{pow-pos}
 use lib.Seq.{take-take}

@@ -20,10 +20,10 @@ ghost use Rattle.meaning.specs.Rows.{hasPart, mostOpens};
 ghost use Rattle.area.specs.Layout.{mostRows, areaBytes, roleCount, permissionBefore, eachBelow, opensGood, goodRowAt, goodBytes};
 ghost use Rattle.area.specs.Parts.{standApart, placesGood, zeroRows};
 
-// How many rows are looked at together behind the used ones.
+// So many unused rows are looked at together, as straight code.
 const STRIDE: usize = 8;
 
-// Whether one of the first i words from number `at` on is part of the next. The search needs no bound: that one is part of itself.
+// Whether one of the i words from number `at` on is part of the next. The search needs no bound: that one is part of itself.
 fn has_part_before(a: &[u8], at: usize, i: usize) -> bool
     requires { ⌜ Spans (now a) (at + i + 1) ⌝ }
     ensures { λ r. ⌜ r ≡ hasPart (getD (words (now (a .entry))) (at + i) 0) (take i (drop at (words (now (a .entry))))) ⌝ }
@@ -60,8 +60,8 @@ fn stand_apart(a: &[u8], at: usize, c: usize) -> bool
 }
 
 // Whether the c words from number `at` on are good open sets beside the denied set d, where `all` has all roles below n.
-// From the last to the first, each at most the next. A set with a role outside `later`, the union of the later ones, is
-// part of none of them, and not empty: where each has one, all stand apart. Else `unsure` is the number of one that has none.
+// From the last to the first, each at most the next. A set with a role outside `later`, the union of the later ones, is not
+// empty and part of none of them. `unsure` is the number of a set that has none, or 0: as a flag it would cost more.
 fn opens_good(a: &[u8], at: usize, c: usize, d: RoleSet, all: RoleSet) -> bool
     requires { ⌜ Spans (now a) (at + c) × (all .bits ≡ allBelow (roleCount (words (now a)))) ⌝ }
     ensures { λ r. ⌜ r ≡ opensGood (roleCount (words (now (a .entry)))) (d .bits) (take c (drop at (words (now (a .entry))))) ⌝ }
@@ -105,7 +105,7 @@ fn places_with(a: &[u8], at: usize, c: usize, d: RoleSet, all: RoleSet) -> bool
     opens_good(a, at, c, d, all)
 }
 
-// The same; for few open sets it becomes straight code.
+// The same, as straight code for few open sets.
 fn places_good(a: &[u8], at: usize, c: usize, d: RoleSet, all: RoleSet) -> bool
     requires { ⌜ Spans (now a) (at + mostOpens) × (c ≤ mostOpens) × (all .bits ≡ allBelow (roleCount (words (now a)))) ⌝ }
     ensures { λ r. ⌜ r ≡ placesGood (roleCount (words (now (a .entry)))) (d .bits) c (take mostOpens (drop at (words (now (a .entry))))) ⌝ }
@@ -170,7 +170,7 @@ fn are_unused(a: &[u8], i: usize, n: usize) -> bool
         & are_zero(a, BODIES_AT + i * BODY_WORDS, n * BODY_WORDS)
 }
 
-// Whether all rows from row `used` on are zeros. Eight rows together become straight code.
+// Whether all rows from row `used` on are zeros.
 fn rest_unused(a: &[u8], used: usize) -> bool
     requires { ⌜ (length (now a) ≡ areaBytes) × (used ≤ mostRows) ⌝ }
     ensures { λ r. ⌜ r ≡ zeroRows (words (now (a .entry))) used (mostRows - used) ⌝ }

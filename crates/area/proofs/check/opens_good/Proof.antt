@@ -1,6 +1,6 @@
 -- `check::opens_good` meets its contract: what is known of the sets passed, from the last on. Assumes nothing.
 use mathlib.Core.Path.{_≡_, refl, sym, ap, ap₂, _∙_, subst}
-use mathlib.Core.Bool.{Bool, true, false, not, _&&_}
+use mathlib.Core.Bool.{Bool, true, not, _&&_}
 use mathlib.Core.List.{List, [], _∷_}
 use mathlib.Core.Logic.{⊎-elim}
 use Prim.Native.Nat.{ℕ, _+_, _-_, _*_, _≤_, _<_}
@@ -11,9 +11,8 @@ use lib.ListN.{length, getD, take, drop, length-take, drop-of-length-le}
 use Rattle.words.specs.Words.{words}
 use Rattle.words.proofs.Laws.{length-words}
 use Rattle.words.proofs.Runs.{spans-again}
-use Rattle.roles.specs.Sets.{partOf, joined, shares}
+use Rattle.roles.specs.Sets.{joined, shares}
 use Rattle.area.specs.Layout.{roleCount}
-use Rattle.area.specs.Parts.{standApart}
 use Rattle.area.proofs.OpensLaws.{firstOr, climb, climb-more, climb-ends, unionOf, eachOutside, outside-more, outside-ends, opens-fall, opens-shared, opens-sure, opens-held}
 use Rattle.area.proofs.CheckLaws.{run-before}
 use borrow.Author.Needs.{needs}
@@ -102,9 +101,6 @@ returns-3 c =
     (ap (λ (x : ℕ). shares x (s .args .d .bits)) (sym (rw end at (at .inv .3))) ∙ sym (c .before .before .shares .ensures) ∙ c .before .if3 .left)
     (sym (rw end at (at .inv .2)) ∙ eq-eqb (at .unsure) 0 (c .if4 .taken))
 
-stand-apart-requires : tie.Need-stand-apart-requires Inv-loop μ-loop
-stand-apart-requires c κs = search needs
-
 returns-4 : tie.Need-returns-4 Inv-loop μ-loop
 returns-4 c =
     let at = c .before .before .before .before .before .loop in
@@ -120,4 +116,4 @@ pub opens-good-spec : {M : Type 1} → statement M
 opens-good-spec =
     tie.close
     (tie.spec Inv-loop μ-loop loop-holds (λ c. search needs) (λ c. let h = c .before .before .before .pre .0 .enough in search needs) get-word-requires returns
-    (λ c κs. search needs) (λ c. search needs) (λ c. search needs) loop-again (λ c κs. search needs) returns-2 returns-3 stand-apart-requires returns-4)
+    (λ c κs. search needs) (λ c. search needs) (λ c. search needs) loop-again (λ c κs. search needs) returns-2 returns-3 (λ c κs. search needs) returns-4)
