@@ -165,15 +165,19 @@ pub row-long : (ws : List ℕ) (i : ℕ) → mostOpens < countAt ws i → false 
 unfolding goodRowAt
 row-long ws i h = rw (lt-leb (countAt ws i) mostOpens h)
 
--- the tests that need no open set, and those of the places
-pub row-made : (ws : List ℕ) (i : ℕ) (b : Bool) {last p d c m : ℕ} → c ≡ countAt ws i → c ≤ mostOpens → last ≡ permissionBefore ws i → p ≡ permissionAt ws i
-    → d ≡ deniedAt ws i → m ≡ allBelow (roleCount ws) → (((ltb last p && leb p lastPermission) && leb d m) && (not (eqb d 0) || not (eqb c 0))) ≡ b
-    → (b && placesGood (roleCount ws) d c (placesAt ws i)) ≡ goodRowAt ws i
+-- the words of row i that are read, the tests that need no open set, and the test of the places
+pub row-made : (ws : List ℕ) (i : ℕ) → i < mostRows → (b : Bool) {last p c d m : ℕ} {places : Bool} → p ≡ getD ws (contentsAt + i * contentWords) 0
+    → c ≡ getD ws (contentsAt + i * contentWords + 1) 0 → c ≤ mostOpens → d ≡ getD ws (bodiesAt + i * bodyWords) 0 → last ≡ permissionBefore ws i → m ≡ allBelow (roleCount ws)
+    → (((ltb last p && leb p lastPermission) && leb d m) && (not (eqb d 0) || not (eqb c 0))) ≡ b
+    → places ≡ placesGood (roleCount ws) d c (take mostOpens (drop (bodiesAt + i * bodyWords + 1) ws)) → (b && places) ≡ goodRowAt ws i
 unfolding goodRowAt placesGood
-row-made ws i b {last} {p} {d} {c} {m} ec h el ep ed em eb =
-    ap (λ (t : Bool). t && (allZero (drop c (placesAt ws i)) && opensGood (roleCount ws) d (take c (placesAt ws i)))) (sym eb)
+row-made ws i h b {last} {p} {c} {d} {m} wp wc few wd el em eb eo =
+    let ep = wp ∙ permission-word ws i h in
+    let ec = wc ∙ count-word ws i h in
+    let ed = wd ∙ denied-word ws i h in
+    ap₂ _&&_ (sym eb) (eo ∙ ap (placesGood (roleCount ws) d c) (sym (places-run ws i h)))
     ∙ regrouped (ltb last p) (leb p lastPermission) (leb d m) (not (eqb d 0) || not (eqb c 0)) (allZero (drop c (placesAt ws i))) (opensGood (roleCount ws) d (take c (placesAt ws i)))
-    ∙ rw (below-all (roleCount ws) d m em, el, ep, ← ec, le-leb c mostOpens h, ed)
+    ∙ rw (below-all (roleCount ws) d m em, el, ep, ← ec, le-leb c mostOpens few, ed)
 
 pub each-more : (p : ℕ → Bool) (k : ℕ) {b q : Bool} → b ≡ eachBelow k p → q ≡ p k → (b && q) ≡ eachBelow (k + 1) p
 each-more p k e f = rw add-one (cc)

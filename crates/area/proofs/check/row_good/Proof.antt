@@ -1,14 +1,12 @@
 -- `check::row_good` meets its contract: the words that it reads are the row's, and the tests are the rules. Assumes nothing.
 use borrow.Author.Needs.{needs}
 use borrow.Author.Tests.{not-true, not-false}
-use mathlib.Core.Path.{sym, ap, _∙_, subst}
+use mathlib.Core.Path.{refl, _∙_, subst}
 use mathlib.Core.Bool.{true, false}
 use Prim.Native.Nat.{ℕ, _<_}
 use Rattle.words.specs.Words.{words}
 use Rattle.meaning.specs.Rows.{mostOpens}
-use Rattle.area.specs.Layout.{roleCount}
-use Rattle.area.specs.Parts.{placesGood}
-use Rattle.area.proofs.CheckLaws.{permission-word, count-word, denied-word, places-run, row-long, row-made}
+use Rattle.area.proofs.CheckLaws.{count-word, row-long, row-made}
 use Rattle.area.proofs.check.row_good.Statement.{statement}
 use Rattle.area.proofs.check.row_good.Tie as tie
 
@@ -23,22 +21,16 @@ returns-2 c =
     let g = c .before .before .before .before in
     let e = g .before in
     let s = e .before .before .before .before in
-    let ws = words (s .args .a .now) in
-    let i = s .args .i in
-    row-made ws i false (e .before .get-word2 .ensures ∙ count-word ws i (s .pre .1)) (e .if1 .left) (s .pre .2) (e .before .before .get-word .ensures ∙ permission-word ws i (s .pre .1))
-    (g .get-word3 .ensures ∙ denied-word ws i (s .pre .1)) (s .pre .3) (not-true _ (c .if2 .taken))
+    row-made (words (s .args .a .now)) (s .args .i) (s .pre .1) false (e .before .before .get-word .ensures) (e .before .get-word2 .ensures) (e .if1 .left) (g .get-word3 .ensures)
+    (s .pre .2) (s .pre .3) (not-true _ (c .if2 .taken)) refl
 
 returns-3 : tie.Need-returns-3
 returns-3 c =
     let g = c .before .before .before .before .before in
     let e = g .before in
     let s = e .before .before .before .before in
-    let ws = words (s .args .a .now) in
-    let i = s .args .i in
-    c .places-good .ensures
-    ∙ ap (placesGood (roleCount ws) (g .get-word3 .result) (e .before .get-word2 .result)) (sym (places-run ws i (s .pre .1)))
-    ∙ row-made ws i true (e .before .get-word2 .ensures ∙ count-word ws i (s .pre .1)) (e .if1 .left) (s .pre .2) (e .before .before .get-word .ensures ∙ permission-word ws i (s .pre .1))
-    (g .get-word3 .ensures ∙ denied-word ws i (s .pre .1)) (s .pre .3) (not-false _ (c .before .if2 .left))
+    row-made (words (s .args .a .now)) (s .args .i) (s .pre .1) true (e .before .before .get-word .ensures) (e .before .get-word2 .ensures) (e .if1 .left) (g .get-word3 .ensures)
+    (s .pre .2) (s .pre .3) (not-false _ (c .before .if2 .left)) (c .places-good .ensures)
 
 pub row-good-spec : {M : Type 1} → statement M
 row-good-spec =
