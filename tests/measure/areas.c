@@ -1,5 +1,7 @@
 #include "areas.h"
 
+#include "../yardstick/yardstick.h"
+
 #include <assert.h>
 #include <string.h>
 
@@ -79,6 +81,11 @@ uint64_t strikable(unsigned i, unsigned opens, enum kind kind)
     return roles << FIRST_OPEN << shift(i);
 }
 
+uint32_t permission_of(unsigned i)
+{
+    return 2 * i + 2;
+}
+
 void fill(uint8_t *area, unsigned rows, unsigned opens, enum kind kind)
 {
     assert(rows <= MOST_ROWS && opens <= MOST_OPENS);
@@ -86,57 +93,11 @@ void fill(uint8_t *area, unsigned rows, unsigned opens, enum kind kind)
     put(area, 0, 64);
     put(area, 1, rows);
     for (unsigned i = 0; i < rows; i++) {
-        put(area, contents_at(i), i + 1);
+        put(area, contents_at(i), permission_of(i));
         put(area, contents_at(i) + 1, opens);
         put(area, body_at(i), role(FIRST_DENIED + shift(i)));
         for (unsigned k = 0; k < opens; k++)
             put(area, body_at(i) + 1 + k, open_set(k, kind) << FIRST_OPEN << shift(i));
     }
-    assert(is_good(area));
-}
-
-static bool all_zero(const uint8_t *area, size_t from, size_t to)
-{
-    for (size_t at = from; at < to; at++)
-        if (word(area, at) != 0)
-            return false;
-    return true;
-}
-
-/* all: the set of all roles below the role count. */
-static bool is_good_body(const uint8_t *area, size_t at, uint64_t opens, uint64_t all)
-{
-    uint64_t denied = word(area, at);
-    if ((denied & ~all) != 0 || (denied == 0 && opens == 0))
-        return false;
-    for (uint64_t k = 1; k <= opens; k++) {
-        uint64_t set = word(area, at + k);
-        if (set == 0 || (set & ~all) != 0 || (set & denied) != 0)
-            return false;
-        for (uint64_t j = 1; j < k; j++) {
-            /* A part is never the larger number, so one direction is enough. */
-            uint64_t lower = word(area, at + j);
-            if (lower >= set || (lower & ~set) == 0)
-                return false;
-        }
-    }
-    return all_zero(area, at + 1 + opens, at + BODY_WORDS);
-}
-
-bool is_good(const uint8_t *area)
-{
-    uint64_t n = word(area, 0), rows = word(area, 1), last = 0;
-    if (n < 1 || n > 64 || rows > MOST_ROWS)
-        return false;
-    uint64_t all = UINT64_MAX >> (64 - n);
-    for (size_t i = 0; i < rows; i++) {
-        uint64_t permission = word(area, contents_at(i));
-        uint64_t opens = word(area, contents_at(i) + 1);
-        if (permission <= last || permission > UINT32_MAX || opens > MOST_OPENS)
-            return false;
-        if (!is_good_body(area, body_at(i), opens, all))
-            return false;
-        last = permission;
-    }
-    return all_zero(area, contents_at(rows), BODIES_AT) && all_zero(area, body_at(rows), AREA_WORDS);
+    assert(yardstick_good(area, AREA_BYTES));
 }

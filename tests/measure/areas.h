@@ -2,7 +2,6 @@
 #ifndef MEASURE_AREAS_H
 #define MEASURE_AREAS_H
 
-#include <stdbool.h>
 #include <stddef.h>
 #include <stdint.h>
 
@@ -25,11 +24,11 @@ enum kind { OWN, PAIRS, TURNED };
 #define LOWEST_ROLE 0
 #define FREE_ROLE 47
 
-/* Role count 64, permissions 1 to rows; rows at most MOST_ROWS, opens at most MOST_OPENS. */
+/* Role count 64, row i has the permission permission_of(i); rows at most MOST_ROWS, opens at most MOST_OPENS. */
 void fill(uint8_t *area, unsigned rows, unsigned opens, enum kind kind);
 
-/* Whether the area obeys every layout rule. */
-bool is_good(const uint8_t *area);
+/* Even numbers from 2 on: a new permission may then stand before, between or behind those with a row. */
+uint32_t permission_of(unsigned i);
 
 /* Roles that a deny reply strikes out of row i's open sets: of TURNED the upper one of each set, of PAIRS the
  * highest one, of OWN none. */

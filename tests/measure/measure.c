@@ -1,6 +1,7 @@
 /* Repeats one call of the archive on an area of a known fill, which is put back before each call:
  *     measure CALL ROWS OPENS own|pairs|turned TIMES
  * prints the last answer. Two runs that differ by one call give the cost of that call and of putting back. */
+#include "../yardstick/yardstick.h"
 #include "areas.h"
 
 #include <stdio.h>
@@ -20,7 +21,7 @@ uint32_t REPLY(uint8_t *area, size_t len, uint32_t permission, uint64_t verdict,
 
 static uint8_t area[AREA_BYTES], before[AREA_BYTES];
 
-/* The last row's permission and sets of it; on an empty area permission 1 and empty sets. */
+/* The last row's permission and sets of it; on an empty area the permission of row 0 and empty sets. */
 static uint32_t permission;
 static uint64_t denied_set, first_open, last_open, struck;
 
@@ -101,6 +102,12 @@ static uint32_t allow_last(void)
 {
     return allow(UINT64_C(1) << FREE_ROLE);
 }
+
+/* A permission before all others: every row moves. */
+static uint32_t new_row(void)
+{
+    return REPLY(area, AREA_BYTES, permission_of(0) - 1, 0, UINT64_C(1) << FREE_ROLE);
+}
 #endif
 
 static const struct {
@@ -122,6 +129,7 @@ static const struct {
     {"allow-drops", allow_drops},
     {"allow-first", allow_first},
     {"allow-last", allow_last},
+    {"new-row", new_row},
 #endif
 };
 
@@ -165,7 +173,7 @@ int main(int argc, char **argv)
     unsigned times = number(argv[5], 1000000);
 
     fill(before, rows, opens, kind);
-    permission = rows > 0 ? rows : 1;
+    permission = permission_of(rows > 0 ? rows - 1 : 0);
     if (rows > 0) {
         denied_set = word(before, body_at(rows - 1));
         first_open = word(before, body_at(rows - 1) + 1);
@@ -179,7 +187,7 @@ int main(int argc, char **argv)
         answer = run();
     }
 
-    if (!is_good(area))
+    if (!yardstick_good(area, AREA_BYTES))
         stop("the call left a bad area");
     printf("%u\n", (unsigned)answer);
     return 0;

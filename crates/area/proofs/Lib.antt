@@ -4,6 +4,7 @@ pub mod Cells
 pub mod Held
 pub mod Rules
 pub mod Bytes
+pub mod OpensLaws
 pub mod CheckLaws
 pub mod Full
 pub mod Theorems

@@ -24,18 +24,18 @@ use Rattle.area.proofs.Held.{content-wide, body-wide, length-wordsOf, c
 
 -- ---- all rules of a list
 
-abbrev Hold : List Bool → Type 0
+abbrev pub Hold : List Bool → Type 0
 Hold [] = Unit {0}
 Hold (b ∷ bs) = T b × Hold bs
 
-allOf-law : (bs : List Bool) → T (allOf bs) ↔ Hold bs
+pub allOf-law : (bs : List Bool) → T (allOf bs) ↔ Hold bs
 allOf-law [] = ((λ h. tt), (λ h. tt))
 allOf-law (b ∷ bs) = (
   (λ h. let p = T-and b (allOf bs) .0 h in (p .0, allOf-law bs .0 (p .1))),
   λ p. T-and b (allOf bs) .1 (p .0, allOf-law bs .1 (p .1)),
 )
 
-eachBelow-law : (n : ℕ) (p : ℕ → Bool) → T (eachBelow n p) ↔ ((k : ℕ) → k < n → T (p k))
+pub eachBelow-law : (n : ℕ) (p : ℕ → Bool) → T (eachBelow n p) ↔ ((k : ℕ) → k < n → T (p k))
 eachBelow-law zero p = ((λ h k u. absurd (let z : ⊥ = omega arith in z)), (λ f. tt))
 eachBelow-law (suc n) p = (
   (λ h k u. let q = T-and (eachBelow n p) (p n) .0 h in elim (ℕ-discrete k n) [
@@ -45,7 +45,7 @@ eachBelow-law (suc n) p = (
   λ f. T-and (eachBelow n p) (p n) .1 (eachBelow-law n p .1 (λ k u. f k (omega arith)), f n (omega arith)),
 )
 
-nonzero : (x : ℕ) → T (not (eqb x 0)) ↔ (x ≢ 0)
+pub nonzero : (x : ℕ) → T (not (eqb x 0)) ↔ (x ≢ 0)
 nonzero x = (
   (λ h e. T-not (eqb x 0) h (subst⁻¹ (λ (y : ℕ). T (eqb y 0)) e tt)),
   λ n. not-T (eqb x 0) (λ t. n (eqb→eq x 0 t)),

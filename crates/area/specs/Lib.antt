@@ -1,5 +1,5 @@
 -- What the contracts and theorems of `area` cite: `Layout` has the numbers and the rules, `State` what an area holds,
--- `Apart` one rule by itself, which one function of the check tests.
+-- `Parts` parts of the rules, which functions of the check test one by one.
 pub mod Layout
 pub mod State
-pub mod Apart
+pub mod Parts

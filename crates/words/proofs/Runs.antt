@@ -1,8 +1,8 @@
 -- Runs of words: written one by one, and tested one by one. Assumes nothing.
 use mathlib.Core.Path.{_≡_, refl, sym, ap, ap₂, _∙_}
-use mathlib.Core.Bool.{Bool, true, false, _&&_}
+use mathlib.Core.Bool.{Bool, true, false, _&&_, and-true}
 use mathlib.Core.List.{List, [], _∷_, _++_}
-use Prim.Native.Nat.{ℕ, zero, suc, _+_, _-_, _≤_, _<_}
+use Prim.Native.Nat.{ℕ, zero, suc, _+_, _≤_, _<_}
 use native.Mathlib.Numerals.{add-one}
 use native.Mathlib.Nat.{add-zero}
 use native.Mathlib.Decide.{ℕ-discrete}
@@ -11,7 +11,7 @@ use borrow.Author.Tests.{eq-eqb, ne-eqb}
 use lib.Bits.{bitOr, or-add-and, and-le-l, and-le-r}
 use lib.Dec.{eqb}
 use lib.ListN.{length, getD, set, take, drop, replicate, length-replicate, length-take, length-drop}
-use lib.Seq.{sets, set-comm, getD-set-other, take-suc, drop-cons, getD-take, getD-drop}
+use lib.Seq.{sets, set-comm, getD-set-other, take-suc, take-add, drop-cons, getD-take, getD-drop}
 use Rattle.words.specs.Words.{Spans, allZero}
 
 -- bytes of the same length span the same words
@@ -114,18 +114,22 @@ or-zero a b = go (ℕ-discrete a 0) (ℕ-discrete b 0)
     go (yes p) (no q) = ne-eqb (bitOr a b) 0 (λ e. q (omega (arith, or-add-and a b, and-le-l a b))) ∙ sym (rw (eq-eqb a 0 p, ne-eqb b 0 q))
     go (no p) q = ne-eqb (bitOr a b) 0 (λ e. p (omega (arith, or-add-and a b, and-le-r a b))) ∙ sym (rw (ne-eqb a 0 p))
 
-allZero-one : (l : List ℕ) (w : ℕ) → allZero (l ++ w ∷ []) ≡ (allZero l && eqb w 0)
+allZero-append : (l m : List ℕ) → allZero (l ++ m) ≡ (allZero l && allZero m)
 unfolding allZero
-allZero-one [] w = and-true (eqb w 0)
+allZero-append [] m = refl
+allZero-append (x ∷ l) m = go (eqb x 0) (allZero-append l m)
   where
-    and-true : (b : Bool) → (b && true) ≡ (true && b)
-    and-true true = refl
-    and-true false = refl
-allZero-one (x ∷ l) w = go (eqb x 0) (allZero-one l w)
-  where
-    go : (b : Bool) → allZero (l ++ w ∷ []) ≡ (allZero l && eqb w 0) → (b && allZero (l ++ w ∷ [])) ≡ ((b && allZero l) && eqb w 0)
+    go : (b : Bool) → allZero (l ++ m) ≡ (allZero l && allZero m) → (b && allZero (l ++ m)) ≡ ((b && allZero l) && allZero m)
     go true e = e
     go false e = refl
+
+-- a run of zeros is two, one behind the other
+pub allZero-split : (m n : ℕ) (l : List ℕ) → allZero (take (m + n) l) ≡ (allZero (take m l) && allZero (take n (drop m l)))
+allZero-split m n l = ap allZero (take-add m n l) ∙ allZero-append (take m l) (take n (drop m l))
+
+allZero-one : (w : ℕ) → allZero (w ∷ []) ≡ eqb w 0
+unfolding allZero
+allZero-one w = and-true (eqb w 0)
 
 -- one word more is joined to those tested
 pub allZero-more : (l : List ℕ) (at k all : ℕ) → at + k < length l → eqb all 0 ≡ allZero (take k (drop at l))
@@ -133,4 +137,5 @@ pub allZero-more : (l : List ℕ) (at k all : ℕ) → at + k < length l → eqb
 allZero-more l at k all b e =
     or-zero all (getD l (at + k) 0)
     ∙ ap (λ (t : Bool). t && eqb (getD l (at + k) 0) 0) e
-    ∙ sym (ap allZero (run-take l at k b) ∙ allZero-one (take k (drop at l)) (getD l (at + k) 0))
+    ∙ ap (λ (t : Bool). allZero (take k (drop at l)) && t) (sym (allZero-one (getD l (at + k) 0)))
+    ∙ sym (ap allZero (run-take l at k b) ∙ allZero-append (take k (drop at l)) (getD l (at + k) 0 ∷ []))

@@ -1,15 +1,15 @@
 -- `check::check` meets its contract: the guards and the tests are the rules. Assumes nothing.
 use mathlib.Core.Path.{_≡_, sym, ap, _∙_, subst}
-use Prim.Native.Nat.{ℕ, _+_, _-_, _*_, _≤_, _<_}
+use Prim.Native.Nat.{ℕ, _-_, _≤_, _<_}
 use mathlib.Core.List.{List}
-use native.Mathlib.Omega.{arith}
 use borrow.Author.Tests.{eq-eqb, ne-eqb}
-use lib.ListN.{length, take, drop}
-use Rattle.words.specs.Words.{words, allZero}
+use lib.ListN.{length}
+use Rattle.words.specs.Words.{words}
 use Rattle.roles.proofs.Laws.{below64-allBelow}
 use Rattle.roles.specs.Sets.{allBelow}
-use Rattle.area.specs.Layout.{mostRoles, mostRows, areaBytes, contentWords, bodyWords, contentsAt, bodiesAt, rowsUsed, eachBelow, goodRowAt, goodArea, goodBytes}
-use Rattle.area.proofs.CheckLaws.{area-spans, area-long, contents-rest, bodies-rest, no-roles, many-roles, many-rows, area-made}
+use Rattle.area.specs.Layout.{mostRoles, mostRows, areaBytes, rowsUsed, eachBelow, goodRowAt, goodArea, goodBytes}
+use Rattle.area.specs.Parts.{zeroRows}
+use Rattle.area.proofs.CheckLaws.{area-long, no-roles, many-roles, many-rows, area-made}
 use borrow.Author.Needs.{needs}
 use Rattle.area.proofs.check.check.Statement.{statement}
 use Rattle.area.proofs.check.check.Tie as tie
@@ -52,29 +52,21 @@ rows-good-requires c κs =
       c .all-below .ensures ∙ below64-allBelow (g .get-word .result) (c .before .before .if3 .left) ∙ ap allBelow (g .get-word .ensures),
     )
 
-are-zero-requires : tie.Need-are-zero-requires
-are-zero-requires c κs = area-spans _ _ (c .before .before .before .before .before .before .before .if1 .left) (omega arith)
-
-are-zero-requires-2 : tie.Need-are-zero-requires-2
-are-zero-requires-2 c κs = area-spans _ _ (c .before .before .before .before .before .before .before .before .if1 .left) (omega arith)
-
 returns-5 : tie.Need-returns-5
 returns-5 c =
-    let e = c .before .before .before .before in
+    let e = c .before .before .before in
     let u = e .before .before .before in
     let g = u .before in
     let l = g .before .before .before .args .a .now in
     let ws = words l in
     let used : u .get-word2 .result ≡ rowsUsed ws = u .get-word2 .ensures in
-    let few : rowsUsed ws ≤ mostRows = subst (λ (n : ℕ). n ≤ mostRows) used (e .if4 .left) in
-    area-made ws (subst (λ (n : ℕ). 1 ≤ n) (g .get-word .ensures) (e .before .before .if2 .left)) (subst (λ (n : ℕ). n ≤ mostRoles) (g .get-word .ensures) (e .before .if3 .left)) few
-    (c .before .before .rows-good .ensures ∙ ap (λ (n : ℕ). eachBelow n (goodRowAt ws)) used)
-    (c .before .are-zero .ensures ∙ ap allZero (ap (λ (n : ℕ). take ((mostRows - n) * contentWords) (drop (contentsAt + n * contentWords) ws)) used ∙ contents-rest ws (rowsUsed ws) few))
-    (c .are-zero2 .ensures ∙ ap allZero (ap (λ (n : ℕ). take ((mostRows - n) * bodyWords) (drop (bodiesAt + n * bodyWords) ws)) used ∙ bodies-rest ws (rowsUsed ws) few (area-long l (g .before .if1 .left))))
+    area-made ws (subst (λ (n : ℕ). 1 ≤ n) (g .get-word .ensures) (e .before .before .if2 .left)) (subst (λ (n : ℕ). n ≤ mostRoles) (g .get-word .ensures) (e .before .if3 .left))
+    (subst (λ (n : ℕ). n ≤ mostRows) used (e .if4 .left)) (area-long l (g .before .if1 .left))
+    (c .before .rows-good .ensures ∙ ap (λ (n : ℕ). eachBelow n (goodRowAt ws)) used)
+    (c .rest-unused .ensures ∙ ap (λ (n : ℕ). zeroRows ws n (mostRows - n)) used)
     ∙ sym (whole l (g .before .if1 .left))
 
 pub check-spec : {M : Type 1} → statement M
 check-spec =
     tie.close
-    (tie.spec returns (λ c κs. search needs) (λ c κs. search needs) returns-2 returns-3 returns-4 (λ c. search needs) (λ c κs. search needs) rows-good-requires
-    (λ c. search needs) (λ c. search needs) (λ c. search needs) are-zero-requires (λ c. search needs) (λ c. search needs) (λ c. search needs) are-zero-requires-2 returns-5)
+    (tie.spec returns (λ c κs. search needs) (λ c κs. search needs) returns-2 returns-3 returns-4 (λ c κs. search needs) rows-good-requires (λ c κs. search needs) returns-5)

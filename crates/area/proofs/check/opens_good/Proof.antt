@@ -1,106 +1,119 @@
 -- `check::opens_good` meets its contract: what is known of the sets passed, from the last on. Assumes nothing.
-use mathlib.Core.Path.{_≡_, refl, sym, ap, ap₂, _∙_, subst⁻¹}
-use mathlib.Core.Bool.{Bool, true, not, _&&_, and-true}
+use mathlib.Core.Path.{_≡_, refl, sym, ap, ap₂, _∙_, subst}
+use mathlib.Core.Bool.{Bool, true, not, _&&_}
 use mathlib.Core.List.{List, [], _∷_}
-use Prim.Native.Nat.{ℕ, _+_, _-_, _^_, _≤_, _<_}
+use mathlib.Core.Logic.{⊎-elim}
+use Prim.Native.Nat.{ℕ, _+_, _-_, _*_, _≤_, _<_}
 use native.Mathlib.Omega.{arith}
-use lib.ListN.{length, take, drop, length-take, drop-of-length-le}
+use borrow.Author.Tests.{eq-eqb, ne-eqb}
+use lib.Dec.{eqb}
+use lib.ListN.{length, getD, take, drop, length-take, drop-of-length-le}
 use Rattle.words.specs.Words.{words}
 use Rattle.words.proofs.Laws.{length-words}
 use Rattle.words.proofs.Runs.{spans-again}
-use Rattle.roles.specs.Sets.{partOf, joined, shares}
+use Rattle.roles.specs.Sets.{joined, shares}
 use Rattle.area.specs.Layout.{roleCount}
-use Rattle.area.specs.Apart.{standApart}
-use Rattle.area.proofs.CheckLaws.{Top, climb, climb-more, unionOf, eachOutside, sure-apart, run-before, opens-parts}
+use Rattle.area.proofs.OpensLaws.{firstOr, climb, climb-more, climb-ends, unionOf, eachOutside, outside-more, outside-ends, opens-fall, opens-shared, opens-sure, opens-held}
+use Rattle.area.proofs.CheckLaws.{run-before}
 use borrow.Author.Needs.{needs}
 use Rattle.area.proofs.check.opens_good.Statement.{statement}
 use Rattle.area.proofs.check.opens_good.Tie as tie
 
 abbrev Inv-loop : tie.InvT-loop
-Inv-loop a at c d ok₀ sure₀ later₀ top₀ j₀ ok sure later top j =
+Inv-loop a at c d unsure₀ later₀ next₀ j₀ unsure later next j =
     (j ≤ c)
-    × (top < 2 ^ 64)
-    × (ok ≡ climb (roleCount (words a)) (drop j (take c (drop at (words a)))))
-    × (sure ≡ eachOutside (drop j (take c (drop at (words a)))))
+    × (climb next₀ (drop j (take c (drop at (words a)))) ≡ true)
+    × (eqb unsure 0 ≡ eachOutside (drop j (take c (drop at (words a)))))
     × (later .bits ≡ unionOf (drop j (take c (drop at (words a)))))
-    × Top (roleCount (words a)) top (drop j (take c (drop at (words a))))
+    × (next ≡ firstOr next₀ (drop j (take c (drop at (words a)))))
 
 abbrev μ-loop : tie.MeasureT-loop
-μ-loop a at c d ok₀ sure₀ later₀ top₀ j₀ ok sure later top j = j
+μ-loop a at c d unsure₀ later₀ next₀ j₀ unsure later next j = j
 
 loop-holds : tie.Need-loop-holds Inv-loop μ-loop
 unfolding climb eachOutside unionOf
 loop-holds c =
     let s = c .before in
-    let ws = words (s .args .a .now) in
-    let l = take (s .args .c) (drop (s .args .at) ws) in
-    let none : drop (s .args .c) l ≡ [] = drop-of-length-le l {i = s .args .c} (omega (arith, length-take (s .args .c) (drop (s .args .at) ws))) in
-    (search needs, search needs, rw none, rw none, rw none, rw none (s .pre .1))
+    let l = take (s .args .c) (drop (s .args .at) (words (s .args .a .now))) in
+    let none : drop (s .args .c) l ≡ [] = drop-of-length-le l {i = s .args .c} (omega (arith, length-take (s .args .c) (drop (s .args .at) (words (s .args .a .now))))) in
+    (search needs, rw none, rw none, rw none, rw none)
 
 get-word-requires : tie.Need-get-word-requires Inv-loop μ-loop
 get-word-requires c κs =
     let p = c .before .before .before .pre .0 in
     spans-again p refl (let h = p .enough in omega arith)
 
-loop-again : tie.Need-loop-again Inv-loop μ-loop
-unfolding unionOf eachOutside
-loop-again c =
-    let at = c .before .before .before .before .before .loop in
-    let s = c .before .before .before .before .before .before .before in
-    let ws = words (s .args .a .now) in
-    let n = roleCount ws in
-    let rest = drop (at .j) (take (s .args .c) (drop (s .args .at) ws)) in
-    let o = c .before .before .before .get-word .result in
-    let below = c .before .before .wrapping-sub-u64 .result in
-    let wraps = c .before .before .wrapping-sub-u64 .ensures in
-    let long : s .args .at + s .args .c ≤ length ws = let h = s .pre .0 .enough in omega (arith, length-words (s .args .a .now)) in
-    let next : drop (at .j - 1) (take (s .args .c) (drop (s .args .at) ws)) ≡ o ∷ rest =
-    run-before ws (s .args .at) (s .args .c) (at .j) (search needs) (at .inv .0) long ∙ ap (λ (x : ℕ). x ∷ rest) (sym (c .before .before .before .get-word .ensures)) in (
-      search needs,
-      search needs,
-      climb-more n (at .top) below o (at .inv .1) (search needs) wraps rest (at .inv .5) (at .ok) (at .inv .2) ∙ ap (climb n) (sym next),
-      ap₂ (λ (b p : Bool). b && not p) (at .inv .3) (c .before .is-part-of .ensures ∙ ap (partOf o) (at .inv .4)) ∙ ap eachOutside (sym next),
-      c .joined .ensures ∙ ap (joined o) (at .inv .4) ∙ ap unionOf (sym next),
-      subst⁻¹ (Top n below) next wraps,
-    )
-
--- when all sets are passed
-module _ (n d : ℕ) (l : List ℕ) (j : ℕ) (none : j ≡ 0) where
-  tests : {ok t : Bool} {later : ℕ} → ok ≡ climb n (drop j l) → later ≡ unionOf (drop j l) → t ≡ shares later d
-      → (ok && not t) ≡ (climb n l && not (shares (unionOf l) d))
-  tests e u t =
-      ap₂ (λ (g p : Bool). g && not p) (e ∙ ap (λ (i : ℕ). climb n (drop i l)) none)
-      (t ∙ ap (λ (x : ℕ). shares x d) (u ∙ ap (λ (i : ℕ). unionOf (drop i l)) none))
-
-  apart : eachOutside (drop j l) ≡ true → standApart l ≡ true
-  apart e = sure-apart l (ap (λ (i : ℕ). eachOutside (drop i l)) (sym none) ∙ e)
+-- the sets from number j - 1 on
+module _ (a : List ℕ) (at c j o : ℕ) (h : (at + c) * 8 ≤ length a) (p : 0 < j) (b : j ≤ c) (here : o ≡ getD (words a) (at + (j - 1)) 0) where
+  one-more : drop (j - 1) (take c (drop at (words a))) ≡ o ∷ drop j (take c (drop at (words a)))
+  one-more = run-before (words a) at c j p b (omega (arith, length-words a)) ∙ ap (λ (x : ℕ). x ∷ drop j (take c (drop at (words a)))) (sym here)
 
 returns : tie.Need-returns Inv-loop μ-loop
 returns c =
-    let at = c .before .before .before .loop in
-    let s = c .before .before .before .before .before in
-    let n = roleCount (words (s .args .a .now)) in
-    let d = s .args .d .bits in
-    let l = take (s .args .c) (drop (s .args .at) (words (s .args .a .now))) in
-    let none : at .j ≡ 0 = omega arith in
-    tests n d l (at .j) none (at .inv .2) (at .inv .4) (c .before .shares .ensures)
-    ∙ sym (and-true (climb n l && not (shares (unionOf l) d)))
-    ∙ ap (λ (b : Bool). (climb n l && not (shares (unionOf l) d)) && b) (sym (apart n d l (at .j) none (sym (at .inv .3) ∙ c .if1 .taken)))
-    ∙ opens-parts n d l
+    let at = c .before .before .before .before .loop in
+    let s = c .before .before .before .before .before .before in
+    let a = s .args .a .now in
+    let l = take (s .args .c) (drop (s .args .at) (words a)) in
+    let m = s .args .all .bits in
+    let o = c .before .before .get-word .result in
+    opens-fall (roleCount (words a)) (s .args .d .bits) m (s .pre .1) (at .j - 1) l
+    (ap (climb m) (one-more a (s .args .at) (s .args .c) (at .j) o (s .pre .0 .enough) (search needs) (at .inv .0) (c .before .before .get-word .ensures))
+    ∙ climb-ends m o (drop (at .j) l) (subst (λ (x : ℕ). x < o) (at .inv .4) (c .if1 .taken)))
+
+loop-again : tie.Need-loop-again Inv-loop μ-loop
+unfolding unionOf
+loop-again c =
+    let g = c .before .before .before .before .before .before in
+    let at = g .before .before .loop in
+    let s = g .before .before .before .before in
+    let a = s .args .a .now in
+    let rest = drop (at .j) (take (s .args .c) (drop (s .args .at) (words a))) in
+    let m = s .args .all .bits in
+    let o = g .get-word .result in
+    let both = c .before .before .before .joined in
+    let next = one-more a (s .args .at) (s .args .c) (at .j) o (s .pre .0 .enough) (search needs) (at .inv .0) (g .get-word .ensures) in (
+      search needs,
+      ap (climb m) next ∙ climb-more m o rest (at .inv .1) (subst (λ (x : ℕ). o ≤ x) (at .inv .4) (c .before .before .before .before .if1 .left)),
+      ⊎-elim
+          (λ k. ne-eqb (c .if2 .unsure) 0 (λ z. omega arith) ∙ sym (ap eachOutside next ∙ outside-ends o rest (at .later .bits) (both .result .bits) (at .inv .3) (both .ensures) (k .0 .taken)))
+          (λ k. ap (λ (x : ℕ). eqb x 0) (k .1) ∙ at .inv .2 ∙ sym (ap eachOutside next ∙ outside-more o rest (at .later .bits) (both .result .bits) (at .inv .3) (both .ensures) (k .0 .left)))
+          (c .if2 .came),
+      both .ensures ∙ ap (joined o) (at .inv .3) ∙ ap unionOf (sym next),
+      ap (firstOr m) (sym next),
+    )
 
 returns-2 : tie.Need-returns-2 Inv-loop μ-loop
 returns-2 c =
+    let at = c .before .before .before .loop in
+    let s = c .before .before .before .before .before in
+    let l = take (s .args .c) (drop (s .args .at) (words (s .args .a .now))) in
+    let end : at .j ≡ 0 = omega arith in
+    opens-shared (roleCount (words (s .args .a .now))) (s .args .d .bits) (s .args .all .bits) (s .pre .1) l (rw end at (at .inv .1))
+    (ap (λ (x : ℕ). shares x (s .args .d .bits)) (sym (rw end at (at .inv .3))) ∙ sym (c .before .shares .ensures) ∙ c .if3 .taken)
+
+returns-3 : tie.Need-returns-3 Inv-loop μ-loop
+returns-3 c =
     let at = c .before .before .before .before .loop in
     let s = c .before .before .before .before .before .before in
-    let n = roleCount (words (s .args .a .now)) in
-    let d = s .args .d .bits in
     let l = take (s .args .c) (drop (s .args .at) (words (s .args .a .now))) in
-    let none : at .j ≡ 0 = omega arith in
-    ap₂ _&&_ (tests n d l (at .j) none (at .inv .2) (at .inv .4) (c .before .before .shares .ensures)) (c .stand-apart .ensures) ∙ opens-parts n d l
+    let end : at .j ≡ 0 = omega arith in
+    opens-sure (roleCount (words (s .args .a .now))) (s .args .d .bits) (s .args .all .bits) (s .pre .1) l (rw end at (at .inv .1))
+    (ap (λ (x : ℕ). shares x (s .args .d .bits)) (sym (rw end at (at .inv .3))) ∙ sym (c .before .before .shares .ensures) ∙ c .before .if3 .left)
+    (sym (rw end at (at .inv .2)) ∙ eq-eqb (at .unsure) 0 (c .if4 .taken))
+
+returns-4 : tie.Need-returns-4 Inv-loop μ-loop
+returns-4 c =
+    let at = c .before .before .before .before .before .loop in
+    let s = c .before .before .before .before .before .before .before in
+    let l = take (s .args .c) (drop (s .args .at) (words (s .args .a .now))) in
+    let end : at .j ≡ 0 = omega arith in
+    ap₂ (λ (x : ℕ) (b : Bool). not (eqb x 0) && b) (rw end at (at .inv .4)) (c .stand-apart .ensures)
+    ∙ opens-held (roleCount (words (s .args .a .now))) (s .args .d .bits) (s .args .all .bits) (s .pre .1) l (rw end at (at .inv .1))
+    (ap (λ (x : ℕ). shares x (s .args .d .bits)) (sym (rw end at (at .inv .3))) ∙ sym (c .before .before .before .shares .ensures) ∙ c .before .before .if3 .left)
+    (sym (rw end at (at .inv .2)) ∙ ne-eqb (at .unsure) 0 (c .before .if4 .left))
 
 pub opens-good-spec : {M : Type 1} → statement M
 opens-good-spec =
     tie.close
-    (tie.spec Inv-loop μ-loop loop-holds (λ c. search needs) (λ c. let h = c .before .before .before .pre .0 .enough in search needs) get-word-requires
-    (λ c κs. search needs) (λ c κs. search needs) (λ c κs. search needs) (λ c. search needs) (λ c. search needs) loop-again (λ c κs. search needs)
-    returns (λ c κs. search needs) returns-2)
+    (tie.spec Inv-loop μ-loop loop-holds (λ c. search needs) (λ c. let h = c .before .before .before .pre .0 .enough in search needs) get-word-requires returns
+    (λ c κs. search needs) (λ c. search needs) (λ c. search needs) loop-again (λ c κs. search needs) returns-2 returns-3 (λ c κs. search needs) returns-4)

@@ -10,8 +10,8 @@ use Rattle.words.specs.Words.{words}
 use Rattle.words.proofs.Laws.{length-words}
 use Rattle.words.proofs.Runs.{spans-again, run-take}
 use Rattle.meaning.specs.Rows.{hasPart}
-use Rattle.area.specs.Apart.{standApart}
-use Rattle.area.proofs.CheckLaws.{apart-one, apart-fewer, apart-broken, apart-first}
+use Rattle.area.specs.Parts.{standApart}
+use Rattle.area.proofs.OpensLaws.{apart-one, apart-fewer, apart-broken, apart-first}
 use Rattle.area.proofs.check.stand_apart.Statement.{statement}
 use Rattle.area.proofs.check.stand_apart.Tie as tie
 
@@ -24,42 +24,35 @@ abbrev μ-loop : tie.MeasureT-loop
 loop-holds : tie.Need-loop-holds Inv-loop μ-loop
 loop-holds c = apart-first (drop (c .before .args .at) (words (c .before .args .a .now)))
 
-get-word-requires : tie.Need-get-word-requires Inv-loop μ-loop
-get-word-requires c κs =
+has-part-before-requires : tie.Need-has-part-before-requires Inv-loop μ-loop
+has-part-before-requires c κs =
     let p = c .before .before .before .pre in
     spans-again p refl (let h = p .enough in omega arith)
 
-has-part-requires : tie.Need-has-part-requires Inv-loop μ-loop
-has-part-requires c κs =
-    let p = c .before .before .before .before .pre in
-    spans-again p refl (let h = p .enough in omega arith)
-
 -- with one set more
-module _ (ws : List ℕ) (at i : ℕ) (s : ℕ) (b : at + i < length ws) (inv : standApart (take i (drop at ws)) ≡ true) (here : s ≡ getD ws (at + i) 0) where
-  apart-next : (t : Bool) → hasPart s (take i (drop at ws)) ≡ t → standApart (take (i + 1) (drop at ws)) ≡ not t
+module _ (ws : List ℕ) (at i : ℕ) (b : at + i < length ws) (inv : standApart (take i (drop at ws)) ≡ true) where
+  apart-next : (t : Bool) → hasPart (getD ws (at + i) 0) (take i (drop at ws)) ≡ t → standApart (take (i + 1) (drop at ws)) ≡ not t
   apart-next t e =
       ap standApart (run-take ws at i b)
       ∙ apart-one (take i (drop at ws)) (getD ws (at + i) 0)
-      ∙ ap₂ (λ (p q : Bool). p && not q) inv (ap (λ (x : ℕ). hasPart x (take i (drop at ws))) (sym here) ∙ e)
+      ∙ ap₂ (λ (p q : Bool). p && not q) inv e
 
 returns : tie.Need-returns Inv-loop μ-loop
 returns c =
-    let at = c .before .before .before .before .loop in
-    let s = c .before .before .before .before .before .before in
+    let at = c .before .before .before .loop in
+    let s = c .before .before .before .before .before in
     let ws = words (s .args .a .now) in
     let h = s .pre .enough in
     apart-broken (at .i + 1) (s .args .c) (drop (s .args .at) ws) (search needs)
-    (apart-next ws (s .args .at) (at .i) (c .before .before .get-word .result) (omega (arith, length-words (s .args .a .now))) (at .inv) (c .before .before .get-word .ensures) true
-    (sym (c .before .has-part .ensures) ∙ c .if1 .taken))
+    (apart-next ws (s .args .at) (at .i) (omega (arith, length-words (s .args .a .now))) (at .inv) true (sym (c .before .has-part-before .ensures) ∙ c .if1 .taken))
 
 loop-again : tie.Need-loop-again Inv-loop μ-loop
 loop-again c =
-    let at = c .before .before .before .before .loop in
-    let s = c .before .before .before .before .before .before in
+    let at = c .before .before .before .loop in
+    let s = c .before .before .before .before .before in
     let ws = words (s .args .a .now) in
     let h = s .pre .enough in
-    apart-next ws (s .args .at) (at .i) (c .before .before .get-word .result) (omega (arith, length-words (s .args .a .now))) (at .inv) (c .before .before .get-word .ensures) false
-    (sym (c .before .has-part .ensures) ∙ c .if1 .left)
+    apart-next ws (s .args .at) (at .i) (omega (arith, length-words (s .args .a .now))) (at .inv) false (sym (c .before .has-part-before .ensures) ∙ c .if1 .left)
 
 returns-2 : tie.Need-returns-2 Inv-loop μ-loop
 returns-2 c =
@@ -70,5 +63,4 @@ returns-2 c =
 pub stand-apart-spec : {M : Type 1} → statement M
 stand-apart-spec =
     tie.close
-    (tie.spec Inv-loop μ-loop loop-holds (λ c. let h = c .before .before .before .pre .enough in search needs) get-word-requires has-part-requires
-    returns (λ c. search needs) (λ c. search needs) loop-again returns-2)
+    (tie.spec Inv-loop μ-loop loop-holds has-part-before-requires returns (λ c. search needs) (λ c. search needs) loop-again returns-2)

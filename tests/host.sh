@@ -1,0 +1,78 @@
+# Sourced by the host tests: a compiler for the archive's machine, a way to run what it makes, the archive, the count.
+# The caller sets work, a folder of its own, and defines stop, which takes a message and ends the script.
+export LC_ALL=C
+root=$(cd "$(dirname "${BASH_SOURCE[0]}")/.." && pwd)
+warnings=(-std=c11 -Wall -Wextra -Wpedantic -Werror)
+passed=0
+failed=0
+
+# Ends a test with its count.
+finish() {
+    echo "$passed passed, $failed failed"
+    [ "$failed" -eq 0 ]
+    exit
+}
+
+packages() {
+    [ "$(id -u)" = 0 ] || stop "please install: $*"
+    { apt-get update -qq && DEBIAN_FRONTEND=noninteractive apt-get install -y -qq --no-install-recommends "$@"; } \
+        </dev/null >"$work/apt" 2>&1 || { cat "$work/apt" >&2; stop "could not install: $*"; }
+}
+
+# need COMMAND PACKAGE
+need() {
+    command -v "$1" >/dev/null || packages "$2"
+}
+
+# A compiler without its C library answers with a bare file name.
+has_compiler() {
+    command -v "$1" >/dev/null && [ -e "$("$1" -print-file-name=libc.a)" ]
+}
+
+# Archives and programs are x86-64: elsewhere a cross compiler links them, and the kit's emulator runs the result.
+rt=$(command -v rt) || stop "rt is not on the path"
+kit=${RATTLE_HOME:-$(dirname "$(dirname "$(readlink -f "$rt")")")}
+tools=$kit/on/$(uname -m)/toolchain
+if [ "$(uname -m)" = x86_64 ]; then
+    compiler=gcc
+    has_compiler "$compiler" || packages gcc libc6-dev
+    runner=()
+else
+    compiler=x86_64-linux-gnu-gcc
+    has_compiler "$compiler" || packages gcc-x86-64-linux-gnu libc6-dev-amd64-cross
+    runner=("$tools/bin/qemu-x86_64")
+    [ -x "${runner[0]}" ] || stop "the kit has no emulator"
+fi
+
+# Builds the archive of a crate anew: one of older code would be tested as if it were this one.
+# One build at a time, and a copy of what it made: a second one would write what the first still reads.
+build_archive() {
+    local lock
+    exec {lock}<"$root/tests/host.sh" && flock "$lock"
+    (cd "$root" && "$rt" staticlib "$1") </dev/null >"$work/rt" 2>&1 || { cat "$work/rt" >&2; stop "no archive"; }
+    archive=$work/lib$1.a
+    cp "$root/target/staticlib/lib$1.a" "$archive"
+    exec {lock}<&-
+}
+
+run() {
+    "${runner[@]+"${runner[@]}"}" "$@"
+}
+
+# Runs a program of groups (groups.h) and adds up its last line, 'N passed, M failed'.
+count_groups() {
+    local status
+    timeout 300 "${runner[@]+"${runner[@]}"}" "$@" 2>&1 | tee "$work/log" | sed -u '$d'
+    status=${PIPESTATUS[0]}
+    if [[ $(tail -n 1 "$work/log") =~ ^([0-9]+)\ passed,\ ([0-9]+)\ failed$ ]]; then
+        passed=$((passed + BASH_REMATCH[1]))
+        failed=$((failed + BASH_REMATCH[2]))
+        [ "$status" -eq 0 ] || [ "${BASH_REMATCH[2]}" -gt 0 ] || failed=$((failed + 1))
+    else
+        # It died: the groups that were done still count.
+        tail -n 1 "$work/log"
+        echo "${1##*/} ended with status $status before its count"
+        passed=$((passed + $(grep -c '^passed: ' "$work/log")))
+        failed=$((failed + 1 + $(grep -c '^FAILED: ' "$work/log")))
+    fi
+}

@@ -1,0 +1,18 @@
+/* The yardstick: document 01's calls in plain C, to compare the library's answers, bytes and instructions with. */
+#ifndef YARDSTICK_H
+#define YARDSTICK_H
+
+#include <stdbool.h>
+#include <stddef.h>
+#include <stdint.h>
+
+uint32_t yardstick_open(uint8_t *area, size_t len, uint64_t role_count);
+uint32_t yardstick_reply(uint8_t *area, size_t len, uint32_t permission, uint64_t verdict, uint64_t set);
+uint32_t yardstick_update(uint8_t *area, size_t len, uint32_t permission, uint64_t kind, uint64_t role);
+uint32_t yardstick_decide(const uint8_t *area, size_t len, uint32_t permission, uint64_t set);
+uint32_t yardstick_forget(uint8_t *area, size_t len, uint32_t permission);
+
+/* Whether the bytes obey every layout rule. */
+bool yardstick_good(const uint8_t *area, size_t len);
+
+#endif
