@@ -58,10 +58,11 @@ drop-run n at k l h =
 
 -- the word before the last but j, in front of them
 pub run-before : (ws : List ℕ) (at c j : ℕ) → 0 < j → j ≤ c → at + c ≤ length ws
-    → drop (j - 1) (take c (drop at ws)) ≡ getD ws (at + (j - 1)) 0 ∷ drop j (take c (drop at ws))
+    → drop (j - 1) (take c (drop at ws)) ≡ getD ws (at + j - 1) 0 ∷ drop j (take c (drop at ws))
 run-before ws at c j p h b =
     let e : j - 1 + 1 ≡ j = omega arith in
-    rw e at (run-drop ws at c (j - 1) (omega arith) b)
+    let f : at + (j - 1) ≡ at + j - 1 = omega arith in
+    rw (e, f) at (run-drop ws at c (j - 1) (omega arith) b)
 
 -- an area has every word of the layout
 pub area-spans : (l : List ℕ) (n : ℕ) → length l ≡ areaBytes → n ≤ areaWords → Spans l n

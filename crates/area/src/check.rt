@@ -72,7 +72,7 @@ fn opens_good(a: &[u8], at: usize, c: usize, d: RoleSet, all: RoleSet) -> bool
     let mut j = c;
     while 0 < j {
         let o = RoleSet {
-            bits: get_word(a, at + (j - 1)),
+            bits: get_word(a, at + j - 1),
         };
         if next < o.bits {
             return false;

@@ -44,7 +44,7 @@ get-word-requires c κs =
     spans-again p refl (let h = p .enough in omega arith)
 
 -- the sets from number j - 1 on
-module _ (a : List ℕ) (at c j o : ℕ) (h : (at + c) * 8 ≤ length a) (p : 0 < j) (b : j ≤ c) (here : o ≡ getD (words a) (at + (j - 1)) 0) where
+module _ (a : List ℕ) (at c j o : ℕ) (h : (at + c) * 8 ≤ length a) (p : 0 < j) (b : j ≤ c) (here : o ≡ getD (words a) (at + j - 1) 0) where
   one-more : drop (j - 1) (take c (drop at (words a))) ≡ o ∷ drop j (take c (drop at (words a)))
   one-more = run-before (words a) at c j p b (omega (arith, length-words a)) ∙ ap (λ (x : ℕ). x ∷ drop j (take c (drop at (words a)))) (sym here)
 
