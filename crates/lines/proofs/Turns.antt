@@ -7,8 +7,8 @@ use native.Mathlib.Numerals.{add-one}
 use native.Mathlib.Omega.{arith}
 use borrow.Author.Tests.{ltb-true, ltb-false, eqb-true}
 use lib.Dec.{eqb, ltb}
-use lib.ListN.{length, take, drop, getD, length-append, drop-of-length-le}
-use lib.Seq.{drop-cons}
+use lib.ListN.{length, take, drop, getD, length-append, length-drop, drop-of-length-le}
+use lib.Seq.{drop-cons, sets}
 use Rattle.area.specs.Layout.{mostRows, goodBytes}
 use Rattle.area.specs.State.{Entry}
 use Rattle.table.specs.Table.{nth, entry}
@@ -20,7 +20,10 @@ use Rattle.requests.specs.declared.Request.the-variants.{Open, Told, Decide, Fo
 use Rattle.lines.specs.Split.{Held, none, isNone, heldAll, linesFrom, said, beforeLf}
 use Rattle.lines.specs.Written.{answerOf, shown, answerText, rowText, rowsText, after, lineWritten, written, programWrites}
 use Rattle.lines.specs.Answers.{firstShown}
-use Rattle.lines.specs.Run.{Place, showing, rowThere, rowShown, shownText, lineEnds, asked, answered, kept, lineRead, lineText, turned, turnText, goesOn, Advances, stops, turns}
+use Rattle.lines.specs.Run.{Place, showing, rowThere, rowShown, shownText, lineEnds, asked, answered, kept, lineRead, lineText, turned, turnText, goesOn, Advances, stops, turns, placeOf, Advanced}
+use Rattle.lines.specs.Program.{fedWith}
+use Rattle.lines.specs.declared.Run.{Run}
+use Rattle.lines.specs.declared.Progress.{Progress}
 use Rattle.lines.proofs.SplitLaws.{lines-ended, lines-open}
 
 -- what is still to be written from m on, if `more` comes in behind its input
@@ -131,3 +134,16 @@ advances-stop {room = room} {m = m} (turns {k = k} {t = t} e a) =
     let n = length-append (turnText m) t in
     let same : room - length (turnText m ++ t) ≡ room - length (turnText m) - length t = omega arith in
     ap (λ (r : ℕ). goesOn r k) same ∙ advances-stop a
+
+-- `advance` has one outcome: the area, the buffer, how much is read and written, and the run but for the bytes behind its line
+pub advanced-one : {r : Run} {l bs d : List ℕ} {p q : Progress} {k m e f : List ℕ} → Advanced r l bs d p k e → Advanced r l bs d q m f
+    → (placeOf (p .run) k [] ≡ placeOf (q .run) m []) × (p .read ≡ q .read) × (p .written ≡ q .written) × (e ≡ f)
+advanced-one {bs = bs} {d = d} {p = p} {q = q} a b =
+    let s = advances-one (a .goes) (b .goes) in
+    let left : length (drop (p .read) bs) ≡ length (drop (q .read) bs) = ap (λ (x : Place). length (x .input)) (s .0) in
+    let i = a .read in
+    let j = b .read in
+    let u = length-drop (p .read) bs in
+    let v = length-drop (q .read) bs in
+    let same : p .read ≡ q .read = omega arith in
+    (ap (λ (x : Place). fedWith x []) (s .0), same, a .wrote .next ∙ ap (λ (x : List ℕ). 0 + length x) (s .1) ∙ sym (b .wrote .next), a .wrote .bytes ∙ ap (sets d 0) (s .1) ∙ sym (b .wrote .bytes))
