@@ -2,6 +2,7 @@
 -- often the buffer is emptied.
 --     start              before the first byte
 --     idle               all that came in is read, and all that is to be shown is shown
+--     fedWith m bs       the place m with the bytes bs to be read
 --     Runs m ps t        from m on, fed with the pieces ps, the program writes t and ends
 --     InRoom room r      every buffer of the run r has that room
 --     Partly m ps t      from m on, fed with pieces of ps, the program has written t so far
