@@ -77,6 +77,13 @@ static void mend(struct gateway *gateway, uint32_t answer)
     tell_someone("this gateway handed a wrong number to the cache");
 }
 
+static void forget(struct gateway *gateway, uint32_t permission)
+{
+    uint32_t answer = wickthrush_forget(gateway->area, sizeof gateway->area, permission);
+    if (answer != WICKTHRUSH_RECORDED)
+        mend(gateway, answer);
+}
+
 /* Feeds a reply. Whatever the cache answers, the reply itself is obeyed. */
 static void hear_reply(struct gateway *gateway, uint32_t permission, bool allowed, uint64_t session)
 {
@@ -90,7 +97,7 @@ static void hear_reply(struct gateway *gateway, uint32_t permission, bool allowe
         break;
     case WICKTHRUSH_CONTRADICTION:
         /* An update got lost, or a reply came late. Which of the two is out of date cannot be known: keep neither. */
-        wickthrush_forget(gateway->area, sizeof gateway->area, permission);
+        forget(gateway, permission);
         tell_someone("the head office contradicts what it said before; all of this permission is forgotten");
         break;
     default: mend(gateway, answer); break;
@@ -107,7 +114,11 @@ static void hear_update(struct gateway *gateway, const struct update *update)
         /* Going on with the old rights would be wrong, so the cache dropped them; replies will fill it again. */
         printf("    the gateway heard it, had no room for it, and forgot all of this permission\n");
         break;
-    default: mend(gateway, answer); break;
+    default:
+        /* An update that was not taken must not leave the old rights in force. */
+        forget(gateway, update->permission);
+        mend(gateway, answer);
+        break;
     }
 }
 

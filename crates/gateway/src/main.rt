@@ -5,8 +5,13 @@ use area::MOST_ROWS;
 use lines::Run;
 use lines::advance;
 use lines::start;
+ghost use mathlib.Core.Path.{_≡_};
+ghost use mathlib.Core.Bool.{_&&_};
 ghost use Prim.Native.Nat.{_≤_};
+ghost use lib.Dec.{leb};
 ghost use lib.ListN.{length};
+ghost use Rattle.area.specs.Layout.{mostRows};
+ghost use Rattle.gateway.specs.Turns.{Within, Closed, Answered};
 
 const INPUT: i32 = 0;
 
@@ -14,27 +19,59 @@ const OUTPUT: i32 = 1;
 
 // The run; the places of the piece from which and up to which it is to be read; whether the input has ended, and whether
 // the program goes on.
-struct Flow {
-    run: Run,
-    from: usize,
-    to: usize,
-    ended: bool,
-    going: bool,
+pub struct Flow {
+    pub run: Run,
+    pub from: usize,
+    pub to: usize,
+    pub ended: bool,
+    pub going: bool,
 }
 
 // Whether all that came in is read, and all that is to be shown is shown.
-fn is_idle(flow: Flow) -> bool {
+fn is_idle(flow: Flow) -> bool
+    ensures { λ b. ⌜ b ≡ (leb mostRows (flow .run .row) && leb (flow .to) (flow .from)) ⌝ }
+{
     let run = flow.run;
     (MOST_ROWS <= run.row) & (flow.to <= flow.from)
 }
 
 // The input has ended: a last line without LF gets one, and after it, or where there is none, the program ends.
 fn close(flow: Flow, piece: &mut [u8]) -> Flow
-    ensures { λ r. ⌜ (r .from ≤ r .to) × (r .to ≤ length (now (piece .exit))) ⌝ }
+    requires { ⌜ 1 ≤ length (now piece) ⌝ }
+    ensures { λ r. ⌜ Closed flow r (now (piece .exit)) ⌝ }
 {
     let run = flow.run;
     let line = run.line;
-    if piece.len() == 0 {
+    if !flow.ended & !line.is_empty() {
+        piece[0] = b'\n';
+        return Flow {
+            run,
+            from: 0,
+            to: 1,
+            ended: true,
+            going: true,
+        };
+    }
+    Flow {
+        run,
+        from: 0,
+        to: 0,
+        ended: true,
+        going: false,
+    }
+}
+
+// The next piece of the input. Where it cannot be read, the program ends: what it holds of a line need not be all of it.
+fn read_piece(flow: Flow, piece: &mut [u8]) -> Flow
+    requires { ⌜ 1 ≤ length (now piece) ⌝ }
+    ensures { λ r. ⌜ Within r (now (piece .exit)) × (r .run ≡ flow .run) ⌝ }
+{
+    if flow.ended {
+        return close(flow, piece);
+    }
+    let run = flow.run;
+    let got = libc::read(INPUT, piece);
+    if got < 0 {
         return Flow {
             run,
             from: 0,
@@ -43,31 +80,10 @@ fn close(flow: Flow, piece: &mut [u8]) -> Flow
             going: false,
         };
     }
-    piece[0] = b'\n';
-    let going = !flow.ended & !line.is_empty();
-    let to = if going { 1 } else { 0 };
-    Flow {
-        run,
-        from: 0,
-        to,
-        ended: true,
-        going,
-    }
-}
-
-// The next piece of the input.
-fn read_piece(flow: Flow, piece: &mut [u8]) -> Flow
-    ensures { λ r. ⌜ (r .from ≤ r .to) × (r .to ≤ length (now (piece .exit))) ⌝ }
-{
-    if flow.ended {
-        return close(flow, piece);
-    }
-    let got = libc::read(INPUT, piece);
     let n = io::count(got, piece);
     if n == 0 {
         return close(flow, piece);
     }
-    let run = flow.run;
     Flow {
         run,
         from: 0,
@@ -79,8 +95,8 @@ fn read_piece(flow: Flow, piece: &mut [u8]) -> Flow
 
 // What is left of the piece answered, as far as the buffer has room, and the buffer written. Without a reader it ends.
 fn answer_piece(flow: Flow, area: &mut [u8], piece: &[u8], out: &mut [u8]) -> Flow
-    requires { ⌜ (flow .from ≤ flow .to) × (flow .to ≤ length (now piece)) ⌝ }
-    ensures { λ r. ⌜ (r .from ≤ r .to) × (r .to ≤ length (now (piece .entry))) ⌝ }
+    requires { ⌜ Within flow (now piece) ⌝ }
+    ensures { λ r. ⌜ Answered flow (now (area .entry)) (now (piece .entry)) (now (out .entry)) r (now (area .exit)) (now (out .exit)) ⌝ }
 {
     let run = flow.run;
     let from = flow.from;
@@ -98,9 +114,10 @@ fn answer_piece(flow: Flow, area: &mut [u8], piece: &[u8], out: &mut [u8]) -> Fl
     }
 }
 
+// One move of `Runs`: idle, the next piece is read; else the piece is answered.
 fn turn(flow: Flow, area: &mut [u8], piece: &mut [u8], out: &mut [u8]) -> Flow
-    requires { ⌜ (flow .from ≤ flow .to) × (flow .to ≤ length (now piece)) ⌝ }
-    ensures { λ r. ⌜ (r .from ≤ r .to) × (r .to ≤ length (now (piece .exit))) ⌝ }
+    requires { ⌜ Within flow (now piece) × (1 ≤ length (now piece)) ⌝ }
+    ensures { λ r. ⌜ Within r (now (piece .exit)) ⌝ }
 {
     if is_idle(flow) {
         return read_piece(flow, piece);

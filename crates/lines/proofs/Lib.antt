@@ -1,4 +1,4 @@
--- The laws behind the code of `lines`, and the theorem on what the program writes.
+-- The laws behind the code of `lines`, and the theorems on its runs and what they write.
 pub mod SplitLaws
 mod AnswerLaws
 mod Texts
@@ -6,3 +6,4 @@ mod Places
 mod Steps
 pub mod Turns
 pub mod Program
+pub mod Runs

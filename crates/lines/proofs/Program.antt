@@ -2,7 +2,7 @@
 use mathlib.Core.Path.{_≡_, refl, sym, ap, _∙_}
 use mathlib.Core.Bool.{Bool, true, false, not, _&&_, false≢true}
 use mathlib.Core.List.{List, [], _∷_, _++_}
-use Prim.Native.Nat.{ℕ, suc}
+use Prim.Native.Nat.{ℕ, suc, _≤_}
 use native.Mathlib.Omega.{arith}
 use borrow.Author.Tests.{ltb-false, eqb-true}
 use lib.Dec.{eqb}
@@ -24,17 +24,27 @@ no-bytes : (bs : List ℕ) → eqb (length bs) 0 ≡ true → bs ≡ []
 no-bytes [] e = refl
 no-bytes (b ∷ bs) e = let z = eqb-true (suc (length bs)) 0 e in absurd (omega arith)
 
+idle-shown : (m : Place) → idle m ≡ true → mostRows ≤ m .row
+idle-shown m e = ltb-false (m .row) mostRows (both (showing m) (eqb (length (m .input)) 0) e .0)
+
+pub idle-read : (m : Place) → idle m ≡ true → m .input ≡ []
+idle-read m e = no-bytes (m .input) (both (showing m) (eqb (length (m .input)) 0) e .1)
+
 -- an idle program has nothing to write but for the lines that come in
-idle-still : (m : Place) (more : List ℕ) → idle m ≡ true → stillTo m more ≡ written (m .number) (m .area) (linesFrom (m .held) more)
-idle-still m more e =
-    let b = both (showing m) (eqb (length (m .input)) 0) e in
-    lines-only m more (ltb-false (m .row) mostRows (b .0)) ∙ ap (λ (x : List ℕ). written (m .number) (m .area) (linesFrom (m .held) (x ++ more))) (no-bytes (m .input) (b .1))
+pub idle-still : (m : Place) (more : List ℕ) → idle m ≡ true → stillTo m more ≡ written (m .number) (m .area) (linesFrom (m .held) more)
+idle-still m more e = lines-only m more (idle-shown m e) ∙ ap (λ (x : List ℕ). written (m .number) (m .area) (linesFrom (m .held) (x ++ more))) (idle-read m e)
 
 -- bytes that are fed to an idle program come before those behind them
-fed-still : (m : Place) (bs more : List ℕ) → idle m ≡ true → stillTo (fedWith m bs) more ≡ stillTo m (bs ++ more)
-fed-still m bs more e =
-    let b = both (showing m) (eqb (length (m .input)) 0) e in
-    lines-only (fedWith m bs) more (ltb-false (m .row) mostRows (b .0)) ∙ sym (idle-still m (bs ++ more) e)
+pub fed-still : (m : Place) (bs more : List ℕ) → idle m ≡ true → stillTo (fedWith m bs) more ≡ stillTo m (bs ++ more)
+fed-still m bs more e = lines-only (fedWith m bs) more (idle-shown m e) ∙ sym (idle-still m (bs ++ more) e)
+
+-- the LF for a last line without one changes nothing
+pub closed-still : (m : Place) → idle m ≡ true → isNone (m .held) ≡ false → stillTo (fedWith m (lf ∷ [])) [] ≡ stillTo m []
+closed-still m e n =
+    fed-still m (lf ∷ []) [] e
+    ∙ idle-still m (lf ∷ []) e
+    ∙ ap (written (m .number) (m .area)) (lines-closed (m .held) n)
+    ∙ sym (idle-still m [] e)
 
 no-lines : (k : ℕ) (l : List ℕ) → written k l (linesFrom none []) ≡ []
 unfolding written linesFrom isNone
@@ -44,12 +54,7 @@ runs-still : {m : Place} {ps : List (List ℕ)} {t : List ℕ} → Runs m ps t �
 unfolding joined
 runs-still {ps = ps} (writes {t = t} room a r) = advances-still a (joined ps) ∙ ap (λ (x : List ℕ). t ++ x) (runs-still r)
 runs-still {m = m} (reads {ps = ps} p e r) = sym (fed-still m p (joined ps) e) ∙ runs-still r
-runs-still {m = m} (closes e n r) =
-    idle-still m [] e
-    ∙ ap (written (m .number) (m .area)) (sym (lines-closed (m .held) n))
-    ∙ sym (idle-still m (lf ∷ []) e)
-    ∙ sym (fed-still m (lf ∷ []) [] e)
-    ∙ runs-still r
+runs-still {m = m} (closes e n r) = sym (closed-still m e n) ∙ runs-still r
 runs-still {m = m} (ends e n) = idle-still m [] e ∙ ap (λ (h : Held). written (m .number) (m .area) (linesFrom h [])) (none-only (m .held) n) ∙ no-lines (m .number) (m .area)
 
 pub program-writes : ProgramWrites

@@ -2,19 +2,28 @@
 -- often the buffer is emptied.
 --     start              before the first byte
 --     idle               all that came in is read, and all that is to be shown is shown
+--     fedWith m bs       the place m with the bytes bs to be read
 --     Runs m ps t        from m on, fed with the pieces ps, the program writes t and ends
---     ProgramWrites      the theorem
+--     InRoom room r      every buffer of the run r has that room
+--     Partly m ps t      from m on, fed with pieces of ps, the program has written t so far
+--     Agree              two outcomes of advance are the same to all that comes after
+--     ProgramWrites      what the program writes in a run
+--     ProgramRuns        every input has a run, with buffers of any room that is enough for a turn
+--     Prefix             what is written so far is a beginning of what a whole run writes
+--     AdvancedOne        the contract of advance allows one outcome
 use mathlib.Core.Path.{_≡_}
 use mathlib.Core.Bool.{Bool, true, false, not, _&&_}
 use mathlib.Core.List.{List, [], _∷_, _++_}
-use Prim.Native.Nat.{ℕ}
+use Prim.Native.Nat.{ℕ, _≤_}
 use lib.Dec.{eqb}
 use lib.ListN.{length, replicate}
 use Rattle.area.specs.Layout.{mostRows, areaBytes}
 use Rattle.text.specs.Ascii.{lf}
-use Rattle.lines.specs.Split.{none, isNone, joined}
+use Rattle.lines.specs.Split.{none, isNone, joined, heldBy}
 use Rattle.lines.specs.Written.{programWrites}
-use Rattle.lines.specs.Run.{Place, showing, Advances}
+use Rattle.lines.specs.Run.{Place, showing, mostText, Advances, Advanced}
+use Rattle.lines.specs.declared.Run.{Run}
+use Rattle.lines.specs.declared.Progress.{Progress}
 
 abbrev pub start : Place
 start = record { held = none; number = 1; row = mostRows; area = replicate areaBytes 0; input = [] }
@@ -33,5 +42,41 @@ pub data Runs : Place → List (List ℕ) → List ℕ → Type 0 where
   closes : {m : Place} {u : List ℕ} → idle m ≡ true → isNone (m .held) ≡ false → Runs (fedWith m (lf ∷ [])) [] u → Runs m [] u
   ends : {m : Place} → idle m ≡ true → isNone (m .held) ≡ true → Runs m [] []
 
+abbrev pub InRoom : ℕ → {m : Place} {ps : List (List ℕ)} {t : List ℕ} → Runs m ps t → Type 0
+InRoom room (writes r a u) = (r ≡ room) × InRoom room u
+InRoom room (reads p e u) = InRoom room u
+InRoom room (closes e n u) = InRoom room u
+InRoom room (ends e n) = Unit {0}
+
+-- a run up to any moment: between two buffers, or within one of which only the beginning t is written
+pub data Partly : Place → List (List ℕ) → List ℕ → Type 0 where
+  so-far : {m : Place} {ps : List (List ℕ)} → Partly m ps []
+  within : {m k : Place} {ps : List (List ℕ)} {t : List ℕ} (room : ℕ) (u : List ℕ) → Advances room m k (t ++ u) → Partly m ps t
+  wrote : {m k : Place} {ps : List (List ℕ)} {t u : List ℕ} (room : ℕ) → Advances room m k t → Partly k ps u → Partly m ps (t ++ u)
+  read : {m : Place} {ps : List (List ℕ)} {u : List ℕ} (p : List ℕ) → idle m ≡ true → Partly (fedWith m p) ps u → Partly m (p ∷ ps) u
+  closed : {m : Place} {u : List ℕ} → idle m ≡ true → isNone (m .held) ≡ false → Partly (fedWith m (lf ∷ [])) [] u → Partly m [] u
+
+-- of a splitter only the line that it keeps
+pub record Agree (p q : Progress) (l m e f : List ℕ) : Type 0 where
+  pub area : l ≡ m
+  pub buffer : e ≡ f
+  pub read : p .read ≡ q .read
+  pub written : p .written ≡ q .written
+  pub held : heldBy (p .run .line) ≡ heldBy (q .run .line)
+  pub number : p .run .number ≡ q .run .number
+  pub row : p .run .row ≡ q .run .row
+
+-- ---- the theorems
+
 abbrev pub ProgramWrites : Type 0
 ProgramWrites = (ps : List (List ℕ)) (t : List ℕ) → Runs start ps t → t ≡ programWrites (joined ps)
+
+abbrev pub ProgramRuns : Type 0
+ProgramRuns = (room : ℕ) → mostText ≤ room → (ps : List (List ℕ)) → (t : List ℕ) × (r : Runs start ps t) × InRoom room r
+
+abbrev pub Prefix : Type 0
+Prefix = (ps : List (List ℕ)) (t : List ℕ) → Partly start ps t → (u : List ℕ) × (t ++ u ≡ programWrites (joined ps))
+
+abbrev pub AdvancedOne : Type 0
+AdvancedOne = (r : Run) (l bs d : List ℕ) (p q : Progress) (l₁ l₂ e₁ e₂ : List ℕ)
+    → Advanced r l bs d p l₁ e₁ → Advanced r l bs d q l₂ e₂ → Agree p q l₁ l₂ e₁ e₂

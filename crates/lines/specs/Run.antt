@@ -3,7 +3,11 @@
 --                         has not read yet
 --     placeOf             the place that the code has come to
 --     showing             there may be rows to be shown
---     rowShown, lineRead  the next row shown; a line read and answered, or kept where it does not end yet
+--     rowThere, atRow     there is a row of that number; the place with another row
+--     rowShown, shownText the next row shown, and its text
+--     lineEnds, asked     the line ends in the input; the request that it says then
+--     answered, kept      a request answered; the line kept where it does not end yet
+--     lineRead, lineText  the one or the other, and what is written
 --     turned, turnText    one turn: where it comes to, and what it writes
 --     mostText            no turn writes more
 --     goesOn room m       a turn is taken while there is something to do, and room for what it writes

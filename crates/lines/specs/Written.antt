@@ -1,9 +1,10 @@
 -- What the line program writes: for each line its number and the answer, and after an S line the rows.
+--     toldOf l p e        the call that an event comes in by
 --     answerOf l q        the answer to a request on the area l, and the bytes afterwards: those of the call it asks for
 --     shown l q           the rows that follow the answer
 --     answerText k a      line number, space, answer, LF
 --     setsOf, setsText    the sets of a row in the order in which they are printed; sets, a space before each
---     rowText e           `= p denied open open ..`, LF
+--     rowText, rowsText   `= p denied open open ..`, LF; rows, one after the other
 --     after k             the number of the next line; numbers have 64 bits
 --     lineWritten k l q   what is written for line k, where it says q
 --     written k l hs      what is written for the lines hs from number k on, on the area l

@@ -18,8 +18,11 @@ use Rattle.area.proofs.RowLaws.{row-good}
 use Rattle.area.proofs.Bytes.{good-state}
 use Rattle.table.specs.Table.{Sound, rowsIn, nth}
 use Rattle.table.proofs.RowWords.{sound}
-use Rattle.walker.specs.Walk.{walked, firstRow, given, none, handed, numberAfter, Walkable, startAnswer}
+use Rattle.meaning.proofs.Verdicts.{unlike}
+use Rattle.walker.specs.Walk.{walked, firstRow, given, none, handed, numberAfter, Walkable, startAnswer, startedNumber}
 use Rattle.walker.specs.declared.Handed.{Handed}
+use Rattle.walker.specs.declared.Started.{Started}
+use Rattle.walker.specs.declared.Started.the-variants.{Good, BadArea}
 
 good-or-bad : (l : List ℕ) {A : Type 0} → (goodBytes l ≡ true → A) → (goodBytes l ≡ false → A) → A
 good-or-bad l {A} g b = by-cases (goodBytes l) refl
@@ -45,6 +48,13 @@ answer-good l e = rw e
 pub answer-bad : (l : List ℕ) → goodBytes l ≡ false → startAnswer l ≡ 1
 unfolding startAnswer
 answer-bad l e = rw e
+
+-- no two cases of it have one number
+pub started-one : (a b : Started) → startedNumber a ≡ startedNumber b → a ≡ b
+started-one Good Good e = refl
+started-one Good BadArea e = unlike tt e
+started-one BadArea Good e = unlike tt e
+started-one BadArea BadArea e = refl
 
 -- ---- the rows that are walked
 

@@ -1,15 +1,15 @@
 -- `gateway::main` ends, and reads no byte outside its buffers. Assumes nothing.
 use borrow.Author.Needs.{needs}
 use mathlib.Core.Path.{_≡_}
-use Prim.Native.Nat.{_≤_}
 use lib.ListN.{length}
 use Rattle.area.specs.Layout.{areaBytes}
+use Rattle.gateway.specs.Turns.{Within}
 use Rattle.gateway.proofs.main.Statement.{statement}
 use Rattle.gateway.proofs.main.Tie as tie
 
 abbrev Inv-loop : tie.InvT-loop
 Inv-loop area₀ piece₀ out₀ flow₀ turns₀ area piece out flow turns =
-    (length area ≡ areaBytes) × (length piece ≡ 65536) × (length out ≡ 65536) × (flow .from ≤ flow .to) × (flow .to ≤ length piece)
+    (length area ≡ areaBytes) × (length piece ≡ 65536) × (length out ≡ 65536) × Within flow piece
 
 abbrev μ-loop : tie.MeasureT-loop
 μ-loop area₀ piece₀ out₀ flow₀ turns₀ area piece out flow turns = turns

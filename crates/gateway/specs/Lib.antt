@@ -1,0 +1,2 @@
+-- What the contracts of `gateway` cite.
+pub mod Turns
