@@ -270,14 +270,13 @@ module _ (n d m : ℕ) (e : m ≡ allBelow n) where
   opens-fall k l h = T-ext false (opensGood n d l) ((λ t. absurd t), λ t. subst T h (climb-drop m k l (good⇒parts l t .0)))
 
   -- what is left to test where they climb
-  pub opens-shared : (l : List ℕ) → climb m l ≡ true → shares (unionOf l) d ≡ true → false ≡ opensGood n d l
-  opens-shared l c s = rw (← opens-parts l, c, s)
+  pub opens-sure : (l : List ℕ) → climb m l ≡ true → eachOutside l ≡ true → not (shares (unionOf l) d) ≡ opensGood n d l
+  opens-sure l c u =
+      rw (← opens-parts l, c, is-true (someFirst l) (outside⇒some l (subst⁻¹ T u tt)), is-true (standApart l) (outside⇒apart l (subst⁻¹ T u tt)))
+      (sym (and-true (not (shares (unionOf l) d) && true) ∙ and-true (not (shares (unionOf l) d))))
 
-  pub opens-sure : (l : List ℕ) → climb m l ≡ true → shares (unionOf l) d ≡ false → eachOutside l ≡ true → true ≡ opensGood n d l
-  opens-sure l c s u =
-      rw (← opens-parts l, c, s, is-true (someFirst l) (outside⇒some l (subst⁻¹ T u tt)), is-true (standApart l) (outside⇒apart l (subst⁻¹ T u tt)))
-
-  pub opens-held : (l : List ℕ) → climb m l ≡ true → shares (unionOf l) d ≡ false → eachOutside l ≡ false → (not (eqb (firstOr m l) 0) && standApart l) ≡ opensGood n d l
+  pub opens-held : (l : List ℕ) → climb m l ≡ true → eachOutside l ≡ false
+      → ((not (shares (unionOf l) d) && not (eqb (firstOr m l) 0)) && standApart l) ≡ opensGood n d l
   unfolding eachOutside
-  opens-held [] c s u = absurd (subst T u tt)
-  opens-held (o ∷ l) c s u = rw (← opens-parts (o ∷ l), c, s)
+  opens-held [] c u = absurd (subst T u tt)
+  opens-held (o ∷ l) c u = rw (← opens-parts (o ∷ l), c)

@@ -85,13 +85,10 @@ fn opens_good(a: &[u8], at: usize, c: usize, d: RoleSet, all: RoleSet) -> bool
         next = o.bits;
         j -= 1;
     }
-    if later.shares(d) {
-        return false;
-    }
     if unsure == 0 {
-        return true;
+        return !later.shares(d);
     }
-    (next != 0) & stand_apart(a, at, c)
+    !later.shares(d) & (next != 0) & stand_apart(a, at, c)
 }
 
 // Whether the places from number `at` on have c good open sets beside the denied set d, and zeros behind them.

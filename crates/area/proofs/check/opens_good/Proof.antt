@@ -13,7 +13,7 @@ use Rattle.words.proofs.Laws.{length-words}
 use Rattle.words.proofs.Runs.{spans-again}
 use Rattle.roles.specs.Sets.{joined, shares}
 use Rattle.area.specs.Layout.{roleCount}
-use Rattle.area.proofs.OpensLaws.{firstOr, climb, climb-more, climb-ends, unionOf, eachOutside, outside-more, outside-ends, opens-fall, opens-shared, opens-sure, opens-held}
+use Rattle.area.proofs.OpensLaws.{firstOr, climb, climb-more, climb-ends, unionOf, eachOutside, outside-more, outside-ends, opens-fall, opens-sure, opens-held}
 use Rattle.area.proofs.CheckLaws.{run-before}
 use borrow.Author.Needs.{needs}
 use Rattle.area.proofs.check.opens_good.Statement.{statement}
@@ -88,8 +88,9 @@ returns-2 c =
     let s = c .before .before .before .before .before in
     let l = take (s .args .c) (drop (s .args .at) (words (s .args .a .now))) in
     let end : at .j ≡ 0 = omega arith in
-    opens-shared (roleCount (words (s .args .a .now))) (s .args .d .bits) (s .args .all .bits) (s .pre .1) l (rw end at (at .inv .1))
-    (ap (λ (x : ℕ). shares x (s .args .d .bits)) (sym (rw end at (at .inv .3))) ∙ sym (c .before .shares .ensures) ∙ c .if3 .taken)
+    ap not (c .shares .ensures ∙ ap (λ (x : ℕ). shares x (s .args .d .bits)) (rw end at (at .inv .3)))
+    ∙ opens-sure (roleCount (words (s .args .a .now))) (s .args .d .bits) (s .args .all .bits) (s .pre .1) l (rw end at (at .inv .1))
+    (sym (rw end at (at .inv .2)) ∙ eq-eqb (at .unsure) 0 (c .before .if3 .taken))
 
 returns-3 : tie.Need-returns-3 Inv-loop μ-loop
 returns-3 c =
@@ -97,23 +98,12 @@ returns-3 c =
     let s = c .before .before .before .before .before .before in
     let l = take (s .args .c) (drop (s .args .at) (words (s .args .a .now))) in
     let end : at .j ≡ 0 = omega arith in
-    opens-sure (roleCount (words (s .args .a .now))) (s .args .d .bits) (s .args .all .bits) (s .pre .1) l (rw end at (at .inv .1))
-    (ap (λ (x : ℕ). shares x (s .args .d .bits)) (sym (rw end at (at .inv .3))) ∙ sym (c .before .before .shares .ensures) ∙ c .before .if3 .left)
-    (sym (rw end at (at .inv .2)) ∙ eq-eqb (at .unsure) 0 (c .if4 .taken))
-
-returns-4 : tie.Need-returns-4 Inv-loop μ-loop
-returns-4 c =
-    let at = c .before .before .before .before .before .loop in
-    let s = c .before .before .before .before .before .before .before in
-    let l = take (s .args .c) (drop (s .args .at) (words (s .args .a .now))) in
-    let end : at .j ≡ 0 = omega arith in
-    ap₂ (λ (x : ℕ) (b : Bool). not (eqb x 0) && b) (rw end at (at .inv .4)) (c .stand-apart .ensures)
+    ap₂ _&&_ (ap₂ (λ (x : Bool) (y : ℕ). not x && not (eqb y 0)) (c .before .shares2 .ensures ∙ ap (λ (x : ℕ). shares x (s .args .d .bits)) (rw end at (at .inv .3))) (rw end at (at .inv .4))) (c .stand-apart .ensures)
     ∙ opens-held (roleCount (words (s .args .a .now))) (s .args .d .bits) (s .args .all .bits) (s .pre .1) l (rw end at (at .inv .1))
-    (ap (λ (x : ℕ). shares x (s .args .d .bits)) (sym (rw end at (at .inv .3))) ∙ sym (c .before .before .before .shares .ensures) ∙ c .before .before .if3 .left)
-    (sym (rw end at (at .inv .2)) ∙ ne-eqb (at .unsure) 0 (c .before .if4 .left))
+    (sym (rw end at (at .inv .2)) ∙ ne-eqb (at .unsure) 0 (c .before .before .if3 .left))
 
 pub opens-good-spec : {M : Type 1} → statement M
 opens-good-spec =
     tie.close
     (tie.spec Inv-loop μ-loop loop-holds (λ c. search needs) (λ c. let h = c .before .before .before .pre .0 .enough in search needs) get-word-requires returns
-    (λ c κs. search needs) (λ c. search needs) (λ c. search needs) loop-again (λ c κs. search needs) returns-2 returns-3 (λ c κs. search needs) returns-4)
+    (λ c κs. search needs) (λ c. search needs) (λ c. search needs) loop-again (λ c κs. search needs) returns-2 (λ c κs. search needs) (λ c κs. search needs) returns-3)
