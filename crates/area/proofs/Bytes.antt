@@ -1,8 +1,8 @@
 -- Good bytes are the bytes of a good state, and that state is one and the same. Assumes nothing.
-use mathlib.Core.Path.{_≡_, refl, sym, ap, _∙_, subst, subst⁻¹}
+use mathlib.Core.Path.{_≡_, refl, sym, ap, _∙_, subst⁻¹}
 use mathlib.Core.List.{List, [], _∷_, _++_}
 use mathlib.Core.Logic.{_⊎_, inl, inr, ⊎-elim}
-use Prim.Native.Nat.{ℕ, zero, suc, _*_, _%_, _^_, _≤_, _<_}
+use Prim.Native.Nat.{ℕ, zero, suc, _*_, _^_, _<_}
 use native.Mathlib.Nat.{le-of-suc-le-suc, lt-of-lt-of-le}
 use native.Mathlib.Omega.{arith}
 use lib.Dec.{T, eqb, eqb→eq, eqb-refl}
@@ -13,7 +13,7 @@ use Rattle.words.specs.Words.{words, bytesOf}
 use Rattle.words.proofs.Laws.{Bytes, length-words, length-bytesOf, bytes-bytesOf, words-bytesOf, bytesOf-words}
 use Rattle.meaning.specs.Lists.{Mem}
 use Rattle.meaning.specs.Rows.{mostOpens}
-use Rattle.area.specs.Layout.{mostRows, contentWords, bodyWords, areaWords, areaBytes, goodArea, goodBytes}
+use Rattle.area.specs.Layout.{mostRows, contentWords, bodyWords, areaBytes, goodArea, goodBytes}
 use Rattle.area.specs.State.{Entry, State, GoodState, pad, each, content, body, header, wordsOf, areaOf, heldBy, stateOf}
 use Rattle.area.proofs.RowLaws.{none, GoodEntry, row-good}
 use Rattle.area.proofs.Held.{length-wordsOf}

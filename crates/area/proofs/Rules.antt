@@ -4,17 +4,16 @@ use mathlib.Core.Bool.{Bool, true, false, not, _&&_, _||_}
 use mathlib.Core.List.{List, [], _∷_}
 use mathlib.Core.Logic.{_↔_, _≢_, _⊎_, inl, inr, ⊎-elim}
 use Prim.Native.Nat.{ℕ, zero, suc, _+_, _*_, _^_, _≤_, _<_}
-use native.Mathlib.Nat.{le-of-suc-le-suc}
 use native.Mathlib.Decide.{ℕ-discrete}
 use native.Mathlib.Omega.{arith}
-use lib.Dec.{T, T-not, not-T, eqb, ltb, leb, eqb→eq, eqb-refl, ltb→lt, lt→ltb, leb→le, le→leb}
+use lib.Dec.{T, T-not, not-T, eqb, eqb→eq, ltb→lt, lt→ltb, leb→le, le→leb}
 use lib.ListN.{length, getD, drop}
 use Rattle.words.specs.Words.{allZero}
 use Rattle.roles.specs.Sets.{shares, partOf}
-use Rattle.roles.proofs.Member.{T-and, T-or}
+use Rattle.roles.proofs.Member.{T-and}
 use Rattle.roles.proofs.Laws.{partOf-le}
-use Rattle.meaning.specs.Lists.{Mem, Ascending, any}
-use Rattle.meaning.specs.Rows.{Row, Good, mostOpens}
+use Rattle.meaning.specs.Lists.{Mem, Ascending}
+use Rattle.meaning.specs.Rows.{Good, mostOpens}
 use Rattle.meaning.proofs.ListLaws.{none-law}
 use Rattle.area.specs.Layout.{mostRoles, mostRows, lastPermission, contentWords, bodyWords, areaWords, roleCount, rowsUsed, contents, bodies, permissionAt, countAt, deniedAt, placesAt, opensAt, permissionBefore, allOf, eachBelow, belowFirst, openRules, opensGood, rowRules, goodRowAt, areaRules, goodArea}
 use Rattle.area.specs.State.{Entry, State, GoodRow, GoodRows, GoodState, pad, each, content, body, wordsOf, entryAt, entriesFrom, heldBy}

@@ -20,7 +20,7 @@
 --     openRules, rowRules, areaRules    the rules for an open set, a row, the area, over the area's words
 --     opensGood, goodRowAt, goodArea    all of them hold
 --     goodBytes                         the bytes are a good area
-use mathlib.Core.Bool.{Bool, true, false, not, _&&_, _||_}
+use mathlib.Core.Bool.{Bool, true, not, _&&_, _||_}
 use mathlib.Core.List.{List, [], _∷_}
 use Prim.Native.Nat.{ℕ, zero, suc, _+_, _*_, _^_}
 use lib.Dec.{eqb, ltb, leb}
@@ -28,7 +28,7 @@ use lib.ListN.{length, getD, take, drop}
 use Rattle.words.specs.Words.{words, allZero}
 use Rattle.roles.specs.Sets.{shares, partOf}
 use Rattle.meaning.specs.Lists.{any}
-use Rattle.meaning.specs.Rows.{Row, mostOpens}
+use Rattle.meaning.specs.Rows.{mostOpens}
 
 -- ---- the numbers
 
