@@ -12,7 +12,7 @@ use lib.ListN.{take, drop}
 use lib.Pow.{pow-pos}
 use lib.Seq.{take-take}
 use Rattle.roles.specs.Sets.{In, shares, partOf, joined, allBelow}
-use Rattle.roles.proofs.Member.{T-and, T-ext, T-or, in-empty, in-joined, partOf-law, shares-law, set-ext}
+use Rattle.roles.proofs.Member.{T-and, T-ext, T-or, in-empty, in-joined, partOf-law, shares-law, set-ext, T-true}
 use Rattle.roles.proofs.Laws.{partOf-refl, partOf-trans, shares-at}
 use Rattle.meaning.specs.Lists.{Mem, any}
 use Rattle.meaning.specs.Rows.{hasPart}
@@ -20,10 +20,6 @@ use Rattle.meaning.proofs.ListLaws.{none-law}
 use Rattle.area.specs.Layout.{allOf, belowFirst, openRules, opensGood}
 use Rattle.area.specs.Parts.{standApart}
 use Rattle.area.proofs.Rules.{allOf-law, nonzero}
-
-is-true : (b : Bool) → T b → b ≡ true
-is-true true t = refl
-is-true false t = absurd t
 
 -- ---- sets that stand apart, one more behind the others
 
@@ -66,7 +62,7 @@ apart-take (suc k) (o ∷ l) t =
 
 -- of sets that stand apart, the first k do
 pub apart-fewer : (k n : ℕ) (l : List ℕ) → k ≤ n → standApart (take n l) ≡ true → standApart (take k l) ≡ true
-apart-fewer k n l h e = ap standApart (sym (take-take k n l h)) ∙ is-true (standApart (take k (take n l))) (apart-take k (take n l) (subst⁻¹ T e tt))
+apart-fewer k n l h e = ap standApart (sym (take-take k n l h)) ∙ T-true (standApart (take k (take n l))) (apart-take k (take n l) (subst⁻¹ T e tt))
 
 -- and where the first k do not, the whole does not
 pub apart-broken : (k n : ℕ) (l : List ℕ) → k ≤ n → standApart (take k l) ≡ false → false ≡ standApart (take n l)
@@ -272,7 +268,7 @@ module _ (n d m : ℕ) (e : m ≡ allBelow n) where
   -- what is left to test where they climb
   pub opens-sure : (l : List ℕ) → climb m l ≡ true → eachOutside l ≡ true → not (shares (unionOf l) d) ≡ opensGood n d l
   opens-sure l c u =
-      rw (← opens-parts l, c, is-true (someFirst l) (outside⇒some l (subst⁻¹ T u tt)), is-true (standApart l) (outside⇒apart l (subst⁻¹ T u tt)))
+      rw (← opens-parts l, c, T-true (someFirst l) (outside⇒some l (subst⁻¹ T u tt)), T-true (standApart l) (outside⇒apart l (subst⁻¹ T u tt)))
       (sym (and-true (not (shares (unionOf l) d) && true) ∙ and-true (not (shares (unionOf l) d))))
 
   pub opens-held : (l : List ℕ) → climb m l ≡ true → eachOutside l ≡ false

@@ -1,10 +1,10 @@
 -- What the program writes is a function of the bytes of its input alone. Assumes nothing.
 use mathlib.Core.Path.{_≡_, refl, sym, ap, _∙_}
-use mathlib.Core.Bool.{Bool, true, false, not, _&&_, false≢true}
+use mathlib.Core.Bool.{true, false, not}
 use mathlib.Core.List.{List, [], _∷_, _++_}
 use Prim.Native.Nat.{ℕ, suc, _≤_}
 use native.Mathlib.Omega.{arith}
-use borrow.Author.Tests.{ltb-false, eqb-true}
+use borrow.Author.Tests.{not-true, ltb-false, eqb-true}
 use lib.Dec.{eqb}
 use lib.ListN.{length}
 use Rattle.area.specs.Layout.{mostRows}
@@ -14,21 +14,18 @@ use Rattle.lines.specs.Written.{written, programWrites}
 use Rattle.lines.specs.Run.{Place, showing}
 use Rattle.lines.specs.Program.{start, idle, fedWith, Runs, writes, reads, closes, ends, ProgramWrites}
 use Rattle.lines.proofs.SplitLaws.{none-only, lines-closed}
+use Rattle.lines.proofs.Steps.{both}
 use Rattle.lines.proofs.Turns.{stillTo, lines-only, advances-still}
-
-both : (s e : Bool) → (not s && e) ≡ true → (s ≡ false) × (e ≡ true)
-both false e h = (refl, h)
-both true e h = absurd (false≢true h)
 
 no-bytes : (bs : List ℕ) → eqb (length bs) 0 ≡ true → bs ≡ []
 no-bytes [] e = refl
 no-bytes (b ∷ bs) e = let z = eqb-true (suc (length bs)) 0 e in absurd (omega arith)
 
 idle-shown : (m : Place) → idle m ≡ true → mostRows ≤ m .row
-idle-shown m e = ltb-false (m .row) mostRows (both (showing m) (eqb (length (m .input)) 0) e .0)
+idle-shown m e = ltb-false (m .row) mostRows (not-true (showing m) (both (not (showing m)) (eqb (length (m .input)) 0) e .0))
 
 pub idle-read : (m : Place) → idle m ≡ true → m .input ≡ []
-idle-read m e = no-bytes (m .input) (both (showing m) (eqb (length (m .input)) 0) e .1)
+idle-read m e = no-bytes (m .input) (both (not (showing m)) (eqb (length (m .input)) 0) e .1)
 
 -- an idle program has nothing to write but for the lines that come in
 pub idle-still : (m : Place) (more : List ℕ) → idle m ≡ true → stillTo m more ≡ written (m .number) (m .area) (linesFrom (m .held) more)

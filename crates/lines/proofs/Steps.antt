@@ -59,7 +59,7 @@ pub test-is : (p : Progress) (l bs : List ℕ) (room : ℕ)
 unfolding goesOn
 test-is p l bs room = ap (λ (t : Bool). leb mostText (room - p .written) && (ltb (p .run .row) mostRows || t)) (ltb-rest (p .read) bs)
 
-both : (a b : Bool) → (a && b) ≡ true → (a ≡ true) × (b ≡ true)
+pub both : (a b : Bool) → (a && b) ≡ true → (a ≡ true) × (b ≡ true)
 both true true e = (refl, refl)
 both true false e = absurd (false≢true e)
 both false b e = absurd (false≢true e)
