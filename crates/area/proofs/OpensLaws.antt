@@ -6,9 +6,9 @@ use mathlib.Core.Logic.{_↔_, inl, inr, ⊎-elim}
 use Prim.Native.Nat.{ℕ, zero, suc, _^_, _≤_, _<_}
 use native.Mathlib.Decide.{ℕ-discrete}
 use native.Mathlib.Omega.{arith}
-use borrow.Author.Tests.{le-leb, lt-leb, eq-eqb, ne-eqb}
+use borrow.Author.Tests.{eq-eqb, ne-eqb}
 use lib.Dec.{T, T-not, not-T, eqb, leb, lt→ltb, ltb→lt, le→leb, leb→le, eqb→eq, eqb-refl}
-use lib.ListN.{take, drop}
+use lib.ListN.{length, take, drop}
 use lib.Pow.{pow-pos}
 use lib.Seq.{take-take}
 use Rattle.roles.specs.Sets.{In, shares, partOf, joined, allBelow}
@@ -17,24 +17,12 @@ use Rattle.roles.proofs.Laws.{partOf-refl, partOf-trans, shares-at}
 use Rattle.meaning.specs.Lists.{Mem, any}
 use Rattle.meaning.specs.Rows.{hasPart}
 use Rattle.meaning.proofs.ListLaws.{none-law}
+use Rattle.meaning.proofs.Walks.{any-one}
 use Rattle.area.specs.Layout.{allOf, belowFirst, openRules, opensGood}
-use Rattle.area.specs.Parts.{standApart}
+use Rattle.area.specs.Parts.{standApart, unionOf, eachOutside, opensSure}
 use Rattle.area.proofs.Rules.{allOf-law, nonzero}
 
 -- ---- sets that stand apart, one more behind the others
-
-any-one : (p : ℕ → Bool) (l : List ℕ) (x : ℕ) → any p (l ++ x ∷ []) ≡ (any p l || p x)
-unfolding any
-any-one p [] x = go (p x)
-  where
-    go : (b : Bool) → (b || false) ≡ b
-    go true = refl
-    go false = refl
-any-one p (y ∷ l) x = go (p y) (any-one p l x)
-  where
-    go : (b : Bool) → any p (l ++ x ∷ []) ≡ (any p l || p x) → (b || any p (l ++ x ∷ [])) ≡ ((b || any p l) || p x)
-    go true e = refl
-    go false e = e
 
 turned : (a q z h : Bool) → (not (a || q) && (z && not h)) ≡ ((not a && z) && not (q || h))
 turned true q z h = refl
@@ -79,20 +67,17 @@ apart-first (o ∷ l) = refl
 
 -- ---- sets held against the union of the later ones
 
-unfoldable pub unionOf : List ℕ → ℕ
-unionOf [] = 0
-unionOf (o ∷ l) = joined o (unionOf l)
-
--- each has a role outside the union of the later ones
-unfoldable pub eachOutside : List ℕ → Bool
-eachOutside [] = true
-eachOutside (o ∷ l) = eachOutside l && not (partOf o (unionOf l))
-
 mem-union : (l : List ℕ) (s : ℕ) → Mem s l → T (partOf s (unionOf l))
 unfolding unionOf
 mem-union [] s m = absurd m
 mem-union (o ∷ l) s (inl e) = partOf-law s (joined o (unionOf l)) .1 (λ r i. in-joined o (unionOf l) r .1 (inl (subst (λ (x : ℕ). In x r) e i)))
 mem-union (o ∷ l) s (inr m) = partOf-law s (joined o (unionOf l)) .1 (λ r i. in-joined o (unionOf l) r .1 (inr (partOf-law s (unionOf l) .0 (mem-union l s m) r i)))
+
+outside-drop : (k : ℕ) (l : List ℕ) → T (eachOutside l) → T (eachOutside (drop k l))
+unfolding eachOutside
+outside-drop zero l t = t
+outside-drop (suc k) [] t = t
+outside-drop (suc k) (o ∷ l) t = outside-drop k l (T-and (eachOutside l) (not (partOf o (unionOf l))) .0 t .0)
 
 outside⇒apart : (l : List ℕ) → T (eachOutside l) → T (standApart l)
 unfolding eachOutside standApart
@@ -126,6 +111,10 @@ joined-same o u = T-ext (eqb (joined o u) u) (partOf o u) (
     λ i. in-joined o u r .1 (inr i),
   ))) (eqb-refl u),
 )
+
+-- a union gains nothing by one of its sets
+pub union-first : (o : ℕ) (l : List ℕ) → joined o (unionOf (o ∷ l)) ≡ unionOf (o ∷ l)
+union-first o l = let u = unionOf (o ∷ l) in eqb→eq (joined o u) u (subst⁻¹ T (joined-same o u) (mem-union (o ∷ l) o (inl refl)))
 
 -- one set more in front, which changes the union of the later ones or not
 module _ (o : ℕ) (l : List ℕ) (u b : ℕ) (e : u ≡ unionOf l) (f : b ≡ joined o u) where
@@ -184,15 +173,6 @@ none-of-either false b = ((λ h. (tt, h)), (λ p. p .1))
 
 union-none : (o u d : ℕ) → T (not (shares (joined o u) d)) ↔ (T (not (shares o d)) × T (not (shares u d)))
 union-none o u d = rw (shares-either o u d) (none-of-either (shares o d) (shares u d))
-
-module _ (m o : ℕ) (l : List ℕ) where
-  pub climb-more : climb m l ≡ true → o ≤ firstOr m l → climb m (o ∷ l) ≡ true
-  unfolding climb
-  climb-more c h = rw (c, le-leb o (firstOr m l) h)
-
-  pub climb-ends : firstOr m l < o → climb m (o ∷ l) ≡ false
-  unfolding climb
-  climb-ends h = rw (lt-leb o (firstOr m l) h, and-false (climb m l))
 
 module _ (n d m : ℕ) (e : m ≡ allBelow n) where
   abbrev Parts : List ℕ → Type 0
@@ -265,14 +245,35 @@ module _ (n d m : ℕ) (e : m ≡ allBelow n) where
   pub opens-fall : (k : ℕ) (l : List ℕ) → climb m (drop k l) ≡ false → false ≡ opensGood n d l
   opens-fall k l h = T-ext false (opensGood n d l) ((λ t. absurd t), λ t. subst T h (climb-drop m k l (good⇒parts l t .0)))
 
-  -- what is left to test where they climb
-  pub opens-sure : (l : List ℕ) → climb m l ≡ true → eachOutside l ≡ true → not (shares (unionOf l) d) ≡ opensGood n d l
-  opens-sure l c u =
-      rw (← opens-parts l, c, T-true (someFirst l) (outside⇒some l (subst⁻¹ T u tt)), T-true (standApart l) (outside⇒apart l (subst⁻¹ T u tt)))
-      (sym (and-true (not (shares (unionOf l) d) && true) ∙ and-true (not (shares (unionOf l) d))))
+  -- nor where they do not stand apart
+  pub opens-touch : (l : List ℕ) → standApart l ≡ false → false ≡ opensGood n d l
+  opens-touch l h = T-ext false (opensGood n d l) ((λ t. absurd t), λ t. subst T h (good⇒parts l t .3))
 
-  pub opens-held : (l : List ℕ) → climb m l ≡ true → eachOutside l ≡ false
+  -- what is left to test of sets that climb
+  pub opens-compared : (l : List ℕ) → 0 < length l → climb m l ≡ true
       → ((not (shares (unionOf l) d) && not (eqb (firstOr m l) 0)) && standApart l) ≡ opensGood n d l
-  unfolding eachOutside
-  opens-held [] c u = absurd (subst T u tt)
-  opens-held (o ∷ l) c u = rw (← opens-parts (o ∷ l), c)
+  opens-compared [] h c = absurd (omega arith)
+  opens-compared (o ∷ l) h c = rw (← opens-parts (o ∷ l), c)
+
+  pub sure-falls : (k : ℕ) (l : List ℕ) → climb m (drop k l) ≡ false → false ≡ opensSure n d l
+  unfolding opensSure
+  sure-falls k l h = ap (λ (b : Bool). b && eachOutside l) (opens-fall k l h)
+
+  pub sure-ends : (k : ℕ) (l : List ℕ) → eachOutside (drop k l) ≡ false → false ≡ opensSure n d l
+  unfolding opensSure
+  sure-ends k l h = sym (ap (λ (b : Bool). opensGood n d l && b) (T-ext (eachOutside l) false ((λ t. subst T h (outside-drop k l t)), λ t. absurd t)) ∙ and-false (opensGood n d l))
+
+  pub sure-made : (l : List ℕ) → climb m l ≡ true → eachOutside l ≡ true → not (shares (unionOf l) d) ≡ opensSure n d l
+  unfolding opensSure
+  sure-made l c u =
+      rw (← opens-parts l, c, u, T-true (someFirst l) (outside⇒some l (subst⁻¹ T u tt)), T-true (standApart l) (outside⇒apart l (subst⁻¹ T u tt)))
+      (sym (and-true ((not (shares (unionOf l) d) && true) && true) ∙ and-true (not (shares (unionOf l) d) && true) ∙ and-true (not (shares (unionOf l) d))))
+
+-- sets that are surely good are good
+pub sure-good : (n d : ℕ) (l : List ℕ) → opensSure n d l ≡ true → true ≡ opensGood n d l
+unfolding opensSure
+sure-good n d l h = sym (T-true (opensGood n d l) (T-and (opensGood n d l) (eachOutside l) .0 (subst⁻¹ T h tt) .0))
+
+pub sure-none : (n d : ℕ) → opensSure n d [] ≡ true
+unfolding opensSure opensGood eachOutside
+sure-none n d = refl

@@ -12,16 +12,39 @@ use roles::RoleSet;
 use words::are_zero;
 use words::get_word;
 ghost use mathlib.Core.Path.{_≡_};
+ghost use mathlib.Core.Bool.{_||_};
 ghost use Prim.Native.Nat.{_+_, _-_, _≤_, _<_};
 ghost use lib.ListN.{length, getD, take, drop};
 ghost use Rattle.words.specs.Words.{words, Spans};
 ghost use Rattle.roles.specs.Sets.{allBelow};
 ghost use Rattle.meaning.specs.Rows.{hasPart, mostOpens};
 ghost use Rattle.area.specs.Layout.{mostRows, areaBytes, roleCount, permissionBefore, eachBelow, opensGood, goodRowAt, goodBytes};
-ghost use Rattle.area.specs.Parts.{standApart, placesGood, zeroRows};
+ghost use Rattle.area.specs.Parts.{firstPart, standApart, opensSure, placesGood, goodButWide, zeroRows};
 
 // So many unused rows are looked at together, as straight code.
 const STRIDE: usize = 8;
+
+// From so many open sets on, two at a time are held against the earlier ones.
+const MANY: usize = 4;
+
+// The number, from word `at` on, of the first word from number k on that is part of s. There must be one, so the search
+// needs no bound.
+fn first_part(a: &[u8], at: usize, k: usize, s: RoleSet) -> usize
+    requires { ⌜ Spans (now a) (at + k + firstPart (s .bits) (drop (at + k) (words (now a))) + 1) ⌝ }
+    ensures { λ r. ⌜ r ≡ k + firstPart (s .bits) (drop (at + k) (words (now (a .entry)))) ⌝ }
+{
+    let mut r = k;
+    let mut o = RoleSet {
+        bits: get_word(a, at + r),
+    };
+    while !o.is_part_of(s) {
+        r += 1;
+        o = RoleSet {
+            bits: get_word(a, at + r),
+        };
+    }
+    r
+}
 
 // Whether one of the i words from number `at` on is part of the next. The search needs no bound: that one is part of itself.
 fn has_part_before(a: &[u8], at: usize, i: usize) -> bool
@@ -31,17 +54,7 @@ fn has_part_before(a: &[u8], at: usize, i: usize) -> bool
     let s = RoleSet {
         bits: get_word(a, at + i),
     };
-    let mut o = RoleSet {
-        bits: get_word(a, at),
-    };
-    let mut k: usize = 0;
-    while !o.is_part_of(s) {
-        k += 1;
-        o = RoleSet {
-            bits: get_word(a, at + k),
-        };
-    }
-    k < i
+    first_part(a, at, 0, s) < i
 }
 
 // Whether none of the c words from number `at` on is part of a later one.
@@ -59,14 +72,92 @@ fn stand_apart(a: &[u8], at: usize, c: usize) -> bool
     true
 }
 
-// Whether the c words from number `at` on are good open sets beside the denied set d, where `all` has all roles below n.
-// From the last to the first, each at most the next. A set with a role outside `later`, the union of the later ones, is not
-// empty and part of none of them. `unsure` is the number of a set that has none, or 0: as a flag it would cost more.
-fn opens_good(a: &[u8], at: usize, c: usize, d: RoleSet, all: RoleSet) -> bool
-    requires { ⌜ Spans (now a) (at + c) × (all .bits ≡ allBelow (roleCount (words (now a)))) ⌝ }
+// Whether one of the i words from number `at` on is part of s or of t, the two next, or s part of t. What is part of one of
+// these is part of their union: that takes one test, and few words pass it.
+fn has_part_of_two(a: &[u8], at: usize, i: usize, s: RoleSet, t: RoleSet) -> bool
+    requires { ⌜ Spans (now a) (at + i + 2) × (s .bits ≡ getD (words (now a)) (at + i) 0) × (t .bits ≡ getD (words (now a)) (at + (i + 1)) 0) ⌝ }
+    ensures { λ r. ⌜ r ≡ (hasPart (s .bits) (take i (drop at (words (now (a .entry))))) || hasPart (t .bits) (take (i + 1) (drop at (words (now (a .entry)))))) ⌝ }
+{
+    if s.is_part_of(t) {
+        return true;
+    }
+    let both = s.joined(t);
+    let mut k = first_part(a, at, 0, both);
+    while k < i {
+        let o = RoleSet {
+            bits: get_word(a, at + k),
+        };
+        if o.is_part_of(s) | o.is_part_of(t) {
+            return true;
+        }
+        k = first_part(a, at, k + 1, both);
+    }
+    false
+}
+
+// Whether the c words from number `at` on are good open sets beside the denied set d, where `all` has all roles below n:
+// from the last to the first, each at most the next, two in a turn. The first one is left, or looked at once more.
+fn opens_many(a: &[u8], at: usize, c: usize, d: RoleSet, all: RoleSet) -> bool
+    requires { ⌜ Spans (now a) (at + c) × (0 < c) × (all .bits ≡ allBelow (roleCount (words (now a)))) ⌝ }
     ensures { λ r. ⌜ r ≡ opensGood (roleCount (words (now (a .entry)))) (d .bits) (take c (drop at (words (now (a .entry))))) ⌝ }
 {
-    let mut unsure: usize = 0;
+    let mut later = RoleSet::EMPTY;
+    let mut next = all.bits;
+    let mut j = c;
+    while 1 < j {
+        let t = RoleSet {
+            bits: get_word(a, at + j - 1),
+        };
+        let s = RoleSet {
+            bits: get_word(a, at + j - 2),
+        };
+        if next < t.bits {
+            return false;
+        }
+        if t.bits < s.bits {
+            return false;
+        }
+        later = s.joined(t).joined(later);
+        if has_part_of_two(a, at, j - 2, s, t) {
+            return false;
+        }
+        next = s.bits;
+        j -= 2;
+    }
+    let o = RoleSet {
+        bits: get_word(a, at),
+    };
+    (o.bits <= next) & !o.joined(later).shares(d) & (o.bits != 0)
+}
+
+// The same for few words: all are passed once for their order and their union, then held against each other.
+fn opens_few(a: &[u8], at: usize, c: usize, d: RoleSet, all: RoleSet) -> bool
+    requires { ⌜ Spans (now a) (at + c) × (0 < c) × (all .bits ≡ allBelow (roleCount (words (now a)))) ⌝ }
+    ensures { λ r. ⌜ r ≡ opensGood (roleCount (words (now (a .entry)))) (d .bits) (take c (drop at (words (now (a .entry))))) ⌝ }
+{
+    let mut later = RoleSet::EMPTY;
+    let mut next = all.bits;
+    let mut j = c;
+    while 0 < j {
+        let o = RoleSet {
+            bits: get_word(a, at + j - 1),
+        };
+        if next < o.bits {
+            return false;
+        }
+        later = o.joined(later);
+        next = o.bits;
+        j -= 1;
+    }
+    !later.shares(d) & (next != 0) & stand_apart(a, at, c)
+}
+
+// Whether they are good and each has a role outside `later`, the union of the later ones: it is then not empty and part of
+// none of them.
+fn opens_sure(a: &[u8], at: usize, c: usize, d: RoleSet, all: RoleSet) -> bool
+    requires { ⌜ Spans (now a) (at + c) × (all .bits ≡ allBelow (roleCount (words (now a)))) ⌝ }
+    ensures { λ r. ⌜ r ≡ opensSure (roleCount (words (now (a .entry)))) (d .bits) (take c (drop at (words (now (a .entry))))) ⌝ }
+{
     let mut later = RoleSet::EMPTY;
     let mut next = all.bits;
     let mut j = c;
@@ -79,16 +170,27 @@ fn opens_good(a: &[u8], at: usize, c: usize, d: RoleSet, all: RoleSet) -> bool
         }
         let both = o.joined(later);
         if both.bits == later.bits {
-            unsure = j;
+            return false;
         }
         later = both;
         next = o.bits;
         j -= 1;
     }
-    if unsure == 0 {
-        return !later.shares(d);
+    !later.shares(d)
+}
+
+// Whether the c words from number `at` on are good open sets beside the denied set d, where `all` has all roles below n.
+fn opens_good(a: &[u8], at: usize, c: usize, d: RoleSet, all: RoleSet) -> bool
+    requires { ⌜ Spans (now a) (at + c) × (all .bits ≡ allBelow (roleCount (words (now a)))) ⌝ }
+    ensures { λ r. ⌜ r ≡ opensGood (roleCount (words (now (a .entry)))) (d .bits) (take c (drop at (words (now (a .entry))))) ⌝ }
+{
+    if opens_sure(a, at, c, d, all) {
+        return true;
     }
-    !later.shares(d) & (next != 0) & stand_apart(a, at, c)
+    if c < MANY {
+        return opens_few(a, at, c, d, all);
+    }
+    opens_many(a, at, c, d, all)
 }
 
 // Whether the places from number `at` on have c good open sets beside the denied set d, and zeros behind them.
@@ -115,10 +217,10 @@ fn places_good(a: &[u8], at: usize, c: usize, d: RoleSet, all: RoleSet) -> bool
     }
 }
 
-// Whether row i is good, where `last` is the permission of the row before.
+// Whether row i is good but for the width of its permission, where `last` is the permission of the row before.
 fn row_good(a: &[u8], i: usize, last: u64, all: RoleSet) -> bool
     requires { ⌜ (length (now a) ≡ areaBytes) × (i < mostRows) × (last ≡ permissionBefore (words (now a)) i) × (all .bits ≡ allBelow (roleCount (words (now a)))) ⌝ }
-    ensures { λ r. ⌜ r ≡ goodRowAt (words (now (a .entry))) i ⌝ }
+    ensures { λ r. ⌜ r ≡ goodButWide (words (now (a .entry))) i ⌝ }
 {
     let content = CONTENTS_AT + i * CONTENT_WORDS;
     let body = BODIES_AT + i * BODY_WORDS;
@@ -131,17 +233,14 @@ fn row_good(a: &[u8], i: usize, last: u64, all: RoleSet) -> bool
     let d = RoleSet {
         bits: get_word(a, body),
     };
-    let ok = (last < p)
-        & (p <= LAST_PERMISSION)
-        & (d.bits <= all.bits)
-        & ((d.bits != 0) | (count != 0));
+    let ok = (last < p) & (d.bits <= all.bits) & ((d.bits != 0) | (count != 0));
     if !ok {
         return false;
     }
     places_good(a, body + 1, c, d, all)
 }
 
-// Whether the first `used` rows are good.
+// Whether the first `used` rows are good. Their permissions ascend, so the last one alone is tested for its width.
 fn rows_good(a: &[u8], used: usize, all: RoleSet) -> bool
     requires { ⌜ (length (now a) ≡ areaBytes) × (used ≤ mostRows) × (all .bits ≡ allBelow (roleCount (words (now a)))) ⌝ }
     ensures { λ r. ⌜ r ≡ eachBelow used (goodRowAt (words (now (a .entry)))) ⌝ }
@@ -155,7 +254,7 @@ fn rows_good(a: &[u8], used: usize, all: RoleSet) -> bool
         last = get_word(a, CONTENTS_AT + i * CONTENT_WORDS);
         i += 1;
     }
-    true
+    last <= LAST_PERMISSION
 }
 
 // Whether the n rows from row i on are zeros.

@@ -36,13 +36,17 @@ any-append p (x ∷ k) l = go (p x) (any-append p k l)
     go true e = refl
     go false e = e
 
-or-true : (b : Bool) → (b || true) ≡ true
+pub or-true : (b : Bool) → (b || true) ≡ true
 or-true true = refl
 or-true false = refl
 
 or-false : (b : Bool) → (b || false) ≡ b
 or-false true = refl
 or-false false = refl
+
+pub any-one : (p : ℕ → Bool) (l : List ℕ) (x : ℕ) → any p (l ++ x ∷ []) ≡ (any p l || p x)
+unfolding any
+any-one p l x = any-append p l (x ∷ []) ∙ ap (λ (b : Bool). any p l || b) (or-false (p x))
 
 module _ (p : ℕ → Bool) (l : List ℕ) (i j : ℕ) (s : j ≡ i + 1) (h : i < length l) (e : any p (take j l) ≡ any p l) where
   any-before : any p l ≡ (any p (take i l) || (p (getD l i 0) || false))

@@ -122,6 +122,16 @@ shares-joined h s t = (
 pub joined-below : (n s t : ℕ) → s < 2 ^ n → t < 2 ^ n → joined s t < 2 ^ n
 joined-below n s t h k = below-law n (joined s t) .1 (λ r i. ⊎-elim (below-law n s .0 h r) (below-law n t .0 k r) (in-joined s t r .0 i))
 
+pub joined-assoc : (s t u : ℕ) → joined (joined s t) u ≡ joined s (joined t u)
+joined-assoc s t u = set-ext (joined (joined s t) u) (joined s (joined t u)) (λ r. (
+  (λ i. in-joined s (joined t u) r .1 (⊎-elim
+      (λ j. ⊎-elim (λ k. inl k) (λ k. inr (in-joined t u r .1 (inl k))) (in-joined s t r .0 j))
+      (λ k. inr (in-joined t u r .1 (inr k))) (in-joined (joined s t) u r .0 i))),
+  λ i. in-joined (joined s t) u r .1 (⊎-elim
+      (λ k. inl (in-joined s t r .1 (inl k)))
+      (λ j. ⊎-elim (λ k. inl (in-joined s t r .1 (inr k))) (λ k. inr k) (in-joined t u r .0 j)) (in-joined s (joined t u) r .0 i)),
+))
+
 -- ---- without
 
 pub without-empty : (s : ℕ) → without s 0 ≡ s

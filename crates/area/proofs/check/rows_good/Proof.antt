@@ -6,13 +6,14 @@ use Prim.Native.Nat.{_-_, _≤_}
 use native.Mathlib.Omega.{arith}
 use Rattle.words.specs.Words.{words}
 use Rattle.area.specs.Layout.{permissionBefore, eachBelow, goodRowAt}
-use Rattle.area.proofs.CheckLaws.{area-spans, permission-word, each-more, each-broken, before-more}
+use Rattle.area.specs.Parts.{goodButWide}
+use Rattle.area.proofs.CheckLaws.{area-spans, permission-word, each-more, each-broken, before-more, rows-made, row-fails}
 use borrow.Author.Needs.{needs}
 use Rattle.area.proofs.check.rows_good.Statement.{statement}
 use Rattle.area.proofs.check.rows_good.Tie as tie
 
 abbrev Inv-loop : tie.InvT-loop
-Inv-loop a used all last₀ i₀ last i = (i ≤ used) × (true ≡ eachBelow i (goodRowAt (words a))) × (last ≡ permissionBefore (words a) i)
+Inv-loop a used all last₀ i₀ last i = (i ≤ used) × (true ≡ eachBelow i (goodButWide (words a))) × (last ≡ permissionBefore (words a) i)
 
 abbrev μ-loop : tie.MeasureT-loop
 μ-loop a used all last₀ i₀ last i = used - i
@@ -25,7 +26,8 @@ returns : tie.Need-returns Inv-loop μ-loop
 returns c =
     let at = c .before .before .before .loop in
     let s = c .before .before .before .before .before in
-    each-broken (goodRowAt (words (s .args .a .now))) (at .i) (s .args .used) (search needs) (sym (c .before .row-good .ensures) ∙ not-true _ (c .if1 .taken))
+    each-broken (goodRowAt (words (s .args .a .now))) (at .i) (s .args .used) (search needs)
+    (row-fails (words (s .args .a .now)) (at .i) (sym (c .before .row-good .ensures) ∙ not-true _ (c .if1 .taken)))
 
 get-word-requires : tie.Need-get-word-requires Inv-loop μ-loop
 get-word-requires c κs = area-spans _ _ (c .before .before .before .before .before .pre .0) (omega arith)
@@ -36,12 +38,16 @@ loop-again c =
     let s = c .before .before .before .before .before .before in
     let ws = words (s .args .a .now) in (
       search needs,
-      each-more (goodRowAt ws) (at .i) (at .inv .1) (sym (not-false _ (c .before .if1 .left)) ∙ c .before .before .row-good .ensures),
+      each-more (goodButWide ws) (at .i) (at .inv .1) (sym (not-false _ (c .before .if1 .left)) ∙ c .before .before .row-good .ensures),
       before-more ws (at .i) (c .get-word .ensures ∙ permission-word ws (at .i) (omega arith)),
     )
 
 returns-2 : tie.Need-returns-2 Inv-loop μ-loop
-returns-2 c = let e : c .before .loop .i ≡ c .before .before .before .args .used = omega arith in rw e at (c .before .loop .inv .1)
+returns-2 c =
+    let at = c .before .loop in
+    let s = c .before .before .before in
+    let e : at .i ≡ s .args .used = omega arith in
+    rw e at (rows-made (words (s .args .a .now)) (at .i) (at .last) (at .inv .2) (at .inv .1))
 
 pub rows-good-spec : {M : Type 1} → statement M
 rows-good-spec =
