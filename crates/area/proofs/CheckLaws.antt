@@ -14,10 +14,11 @@ use lib.Seq.{take-all, take-take, drop-drop, getD-take, getD-drop, ext-getD}
 use Rattle.words.specs.Words.{words, Spans, allZero}
 use Rattle.words.proofs.Laws.{length-words}
 use Rattle.words.proofs.Runs.{run-drop, allZero-split}
-use Rattle.roles.specs.Sets.{allBelow}
+use Rattle.roles.specs.Sets.{allBelow, mostRoles}
 use Rattle.roles.proofs.Member.{T-and, T-ext}
 use Rattle.meaning.specs.Rows.{mostOpens}
-use Rattle.area.specs.Layout.{mostRoles, mostRows, areaWords, areaBytes, contentWords, bodyWords, contentsAt, bodiesAt, lastPermission, roleCount, rowsUsed, contents, bodies, permissionAt, countAt, deniedAt, placesAt, opensAt, permissionBefore, eachBelow, opensGood, goodRowAt, goodArea}
+use Rattle.meaning.specs.Events.{lastPermission}
+use Rattle.area.specs.Layout.{mostRows, areaWords, areaBytes, contentWords, bodyWords, contentsAt, bodiesAt, roleCount, rowsUsed, contents, bodies, permissionAt, countAt, deniedAt, placesAt, opensAt, permissionBefore, eachBelow, opensGood, goodRowAt, goodArea}
 use Rattle.area.specs.Parts.{placesGood, goodButWide, zeroRows}
 use Rattle.area.proofs.Rules.{eachBelow-law}
 

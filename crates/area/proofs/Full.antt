@@ -5,7 +5,7 @@ use Prim.Native.Nat.{ℕ, zero, suc, _+_, _≤_, _<_}
 use native.Mathlib.Omega.{arith}
 use lib.ListN.{length, getD}
 use Rattle.meaning.specs.Rows.{Row}
-use Rattle.area.specs.Layout.{lastPermission}
+use Rattle.meaning.specs.Events.{lastPermission}
 use Rattle.area.specs.State.{Entry, GoodRow, GoodRows}
 use Rattle.area.proofs.RowLaws.{entry, none}
 

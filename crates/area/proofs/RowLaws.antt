@@ -15,7 +15,8 @@ use lib.Seq.{drop-cons}
 use Rattle.roles.proofs.Member.{T-and}
 use Rattle.meaning.specs.Rows.{Row, blank, Good, mostOpens}
 use Rattle.meaning.proofs.Kept.{blank-good}
-use Rattle.area.specs.Layout.{mostRows, lastPermission}
+use Rattle.meaning.specs.Events.{lastPermission}
+use Rattle.area.specs.Layout.{mostRows}
 use Rattle.area.specs.State.{Entry, isBlank, GoodRow, GoodRows, rowFor, one, past, put, place, insertAt, removeAt}
 
 abbrev pub entry : ℕ → Row → Entry

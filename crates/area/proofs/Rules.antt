@@ -9,13 +9,14 @@ use native.Mathlib.Omega.{arith}
 use lib.Dec.{T, T-not, not-T, eqb, eqb→eq, ltb→lt, lt→ltb, leb→le, le→leb}
 use lib.ListN.{length, getD, drop}
 use Rattle.words.specs.Words.{allZero}
-use Rattle.roles.specs.Sets.{shares, partOf}
+use Rattle.roles.specs.Sets.{shares, partOf, mostRoles}
 use Rattle.roles.proofs.Member.{T-and}
 use Rattle.roles.proofs.Laws.{partOf-le}
 use Rattle.meaning.specs.Lists.{Mem, Ascending}
 use Rattle.meaning.specs.Rows.{Good, mostOpens}
 use Rattle.meaning.proofs.ListLaws.{none-law}
-use Rattle.area.specs.Layout.{mostRoles, mostRows, lastPermission, contentWords, bodyWords, areaWords, roleCount, rowsUsed, contents, bodies, permissionAt, countAt, deniedAt, placesAt, opensAt, permissionBefore, allOf, eachBelow, belowFirst, openRules, opensGood, rowRules, goodRowAt, areaRules, goodArea}
+use Rattle.meaning.specs.Events.{lastPermission}
+use Rattle.area.specs.Layout.{mostRows, contentWords, bodyWords, areaWords, roleCount, rowsUsed, contents, bodies, permissionAt, countAt, deniedAt, placesAt, opensAt, permissionBefore, allOf, eachBelow, belowFirst, openRules, opensGood, rowRules, goodRowAt, areaRules, goodArea}
 use Rattle.area.specs.State.{Entry, State, GoodRow, GoodRows, GoodState, pad, each, content, body, wordsOf, entryAt, entriesFrom, heldBy}
 use Rattle.area.proofs.RowLaws.{none, GoodEntry, row-good, rows-ascending}
 use Rattle.area.proofs.Cells.{pad-behind, length-each, length-entries}

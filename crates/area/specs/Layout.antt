@@ -26,20 +26,15 @@ use Prim.Native.Nat.{ℕ, zero, suc, _+_, _*_, _^_}
 use lib.Dec.{eqb, ltb, leb}
 use lib.ListN.{length, getD, take, drop}
 use Rattle.words.specs.Words.{words, allZero}
-use Rattle.roles.specs.Sets.{shares, partOf}
+use Rattle.roles.specs.Sets.{mostRoles, shares, partOf}
+use Rattle.meaning.specs.Events.{lastPermission}
 use Rattle.meaning.specs.Lists.{any}
 use Rattle.meaning.specs.Rows.{mostOpens}
 
 -- ---- the numbers
 
-abbrev pub mostRoles : ℕ
-mostRoles = 64
-
 abbrev pub mostRows : ℕ
 mostRows = 128
-
-abbrev pub lastPermission : ℕ
-lastPermission = 4294967295
 
 abbrev pub contentWords : ℕ
 contentWords = 2

@@ -13,8 +13,10 @@ use Prim.Native.Nat.{ℕ, zero, suc, _*_, _≤_, _<_}
 use lib.Dec.{T, eqb, ltb}
 use lib.ListN.{length, take, drop, replicate}
 use Rattle.words.specs.Words.{words, bytesOf}
+use Rattle.roles.specs.Sets.{mostRoles}
 use Rattle.meaning.specs.Rows.{Row, blank, Good, mostOpens}
-use Rattle.area.specs.Layout.{mostRoles, mostRows, lastPermission, contentWords, bodyWords, roleCount, rowsUsed, permissionAt, deniedAt, opensAt}
+use Rattle.meaning.specs.Events.{lastPermission}
+use Rattle.area.specs.Layout.{mostRows, contentWords, bodyWords, roleCount, rowsUsed, permissionAt, deniedAt, opensAt}
 
 pub record Entry : Type 0 where
   pub permission : ℕ

@@ -3,11 +3,7 @@ pub mod check;
 
 use meaning::MOST_OPENS;
 
-pub const MOST_ROLES: u64 = 64;
-
 pub const MOST_ROWS: usize = 128;
-
-pub const LAST_PERMISSION: u64 = 4294967295;
 
 // In words: an entry of the contents, a body, where the contents and the bodies start, the area.
 pub const CONTENT_WORDS: usize = 2;

@@ -7,10 +7,9 @@ use borrow.Author.Tests.{le-leb}
 use lib.Dec.{T, leb}
 use Rattle.roles.proofs.Member.{T-and}
 use Rattle.meaning.specs.declared.Happening.{Happening}
-use Rattle.meaning.specs.Events.{Possible}
+use Rattle.meaning.specs.Events.{Possible, lastPermission}
 use Rattle.meaning.specs.Rows.{blank, rowAfter, Recorded}
 use Rattle.meaning.proofs.Theorems.{same-row}
-use Rattle.area.specs.Layout.{lastPermission}
 use Rattle.area.specs.State.{State, Entry, rowFor, areaOf}
 use Rattle.area.proofs.RowLaws.{rows-ext}
 use Rattle.area.proofs.Theorems.{one-state}

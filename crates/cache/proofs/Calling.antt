@@ -9,15 +9,16 @@ use lib.Dec.{T, eqb, ltb, leb, ltb→lt, lt→ltb}
 use lib.ListN.{length, getD}
 use borrow.Author.Tests.{eq-eqb, ne-eqb, le-leb, lt-leb, lt-ltb, le-ltb}
 use Rattle.words.specs.Words.{words, Spans}
-use Rattle.roles.specs.Sets.{single, allBelow, partOf}
+use Rattle.roles.specs.Sets.{single, allBelow, partOf, mostRoles}
 use Rattle.roles.proofs.Member.{T-ext}
 use Rattle.roles.proofs.Laws.{partOf-allBelow, single-below, below-single}
 use Rattle.meaning.specs.Rows as meaning
 use Rattle.meaning.specs.Rows.{decide, mostOpens}
+use Rattle.meaning.specs.Events.{lastPermission}
 use Rattle.rows.specs.Stored.{Tidy, rowOf, storedRow}
 use Rattle.rows.specs.declared.Row.{Row}
 use Rattle.rows.proofs.Padded.{stored⇒tidy, stored⇒row}
-use Rattle.area.specs.Layout.{mostRoles, lastPermission, areaBytes, goodBytes}
+use Rattle.area.specs.Layout.{areaBytes, goodBytes}
 use Rattle.area.specs.State.{rowFor, heldBy, stateOf, areaOf}
 use Rattle.area.proofs.RowLaws.{rowFor-few}
 use Rattle.area.proofs.Bytes.{good-state}

@@ -6,14 +6,14 @@ use mathlib.Core.Logic.{_≢_, _⊎_, inl, inr, ⊎-elim}
 use Prim.Native.Nat.{ℕ}
 use lib.Dec.{T, eqb, leb}
 use lib.ListN.{length}
-use Rattle.roles.specs.Sets.{allBelow, partOf}
+use Rattle.roles.specs.Sets.{allBelow, partOf, mostRoles}
 use Rattle.roles.proofs.Member.{T-and}
 use Rattle.meaning.specs.declared.Happening.{Happening}
 use Rattle.meaning.specs.declared.Happening.the-variants.{Allow, Deny, Given, Withdrawn}
 use Rattle.meaning.specs.Events.{known}
 use Rattle.meaning.specs.Rows.{Row, blank, hasPart, contradicts, step, decide}
 use Rattle.meaning.proofs.Verdicts.{unlike}
-use Rattle.area.specs.Layout.{mostRoles, areaBytes, goodBytes}
+use Rattle.area.specs.Layout.{areaBytes, goodBytes}
 use Rattle.area.specs.State.{State, rowFor, withRow, stateOf}
 use Rattle.cache.specs.Calls.{Out, stays, holds, valid, isReply, fitsIn, eventOn, replied, updated, onArea, openOf, replyOf, updateOf, decideOf, forgetOf}
 use Rattle.cache.specs.Demands.{Ground, Exactly, Answers, Zero, Verdict, ground, areaGrounds, Demand1}

@@ -10,11 +10,11 @@ use lib.ListN.{length}
 use Rattle.roles.specs.Sets.{allBelow, partOf}
 use Rattle.roles.proofs.Member.{T?, T-and, T-or, T-true, T-false}
 use Rattle.meaning.specs.declared.Happening.{Happening}
-use Rattle.meaning.specs.Events.{known}
+use Rattle.meaning.specs.Events.{known, lastPermission}
 use Rattle.meaning.specs.Rows.{Row, blank, Good, fits, contradicts, step, settle, decide}
 use Rattle.meaning.proofs.Kept.{step-good}
 use Rattle.meaning.proofs.Answers.{settle-law, fits-law}
-use Rattle.area.specs.Layout.{mostRows, lastPermission, goodBytes}
+use Rattle.area.specs.Layout.{mostRows, goodBytes}
 use Rattle.area.specs.State.{State, isBlank, GoodState, rowFor, withRow, stateOf, areaOf}
 use Rattle.area.proofs.RowLaws.{rowFor-good, put-good, put-most}
 use Rattle.area.proofs.Bytes.{area-good, area-state}

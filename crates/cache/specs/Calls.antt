@@ -10,12 +10,12 @@ use mathlib.Core.List.{List, []}
 use Prim.Native.Nat.{ℕ}
 use lib.Dec.{eqb, ltb, leb}
 use lib.ListN.{length}
-use Rattle.roles.specs.Sets.{allBelow, partOf}
+use Rattle.roles.specs.Sets.{allBelow, partOf, mostRoles}
 use Rattle.meaning.specs.declared.Happening.{Happening}
 use Rattle.meaning.specs.declared.Happening.the-variants.{Allow, Deny, Given, Withdrawn}
-use Rattle.meaning.specs.Events.{known}
+use Rattle.meaning.specs.Events.{known, lastPermission}
 use Rattle.meaning.specs.Rows.{Row, blank, fits, contradicts, step, decide}
-use Rattle.area.specs.Layout.{mostRoles, mostRows, lastPermission, areaBytes, goodBytes}
+use Rattle.area.specs.Layout.{mostRows, areaBytes, goodBytes}
 use Rattle.area.specs.State.{State, isBlank, rowFor, withRow, stateOf, areaOf}
 
 pub record Out : Type 0 where

@@ -14,13 +14,13 @@ use mathlib.Core.Logic.{_↔_, _≢_, _⊎_}
 use Prim.Native.Nat.{ℕ}
 use lib.Dec.{T, eqb, leb}
 use lib.ListN.{length}
-use Rattle.roles.specs.Sets.{allBelow, partOf}
+use Rattle.roles.specs.Sets.{allBelow, partOf, mostRoles}
 use Rattle.meaning.specs.declared.Event.{Event}
 use Rattle.meaning.specs.declared.Happening.{Happening}
 use Rattle.meaning.specs.Events.{known, agrees, HolderSet, Possible, Decides}
 use Rattle.meaning.specs.Readings as rows
 use Rattle.meaning.specs.Rows.{contradicts, step}
-use Rattle.area.specs.Layout.{mostRoles, areaBytes, goodBytes}
+use Rattle.area.specs.Layout.{areaBytes, goodBytes}
 use Rattle.area.specs.State.{State, GoodState, isBlank, rowFor, stateOf, areaOf}
 use Rattle.cache.specs.Calls.{Out, stays, valid, fitsIn, replied, updated, openOf, replyOf, updateOf, decideOf, forgetOf}
 use Rattle.cache.specs.declared.Answer.{Answer}

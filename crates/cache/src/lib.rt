@@ -1,10 +1,10 @@
 // The calls on a lent area: open, reply, update, decide, forget.
 use area::AREA_BYTES;
-use area::MOST_ROLES;
 use area::MOST_ROWS;
 use area::check::check;
 use meaning::Event;
 use meaning::Happening;
+use roles::MOST_ROLES;
 use roles::RoleSet;
 use rows::Row;
 use rows::Verdict;

@@ -1,4 +1,5 @@
 -- What events mean: the holder sets that a trail of them leaves possible, and the verdict that those force.
+--     lastPermission       permissions are 1 to this one
 --     about e              the roles that an event names
 --     known n e            they all lie below the role count n
 --     agrees e h           the holder set h agrees with the event as it arrives
@@ -20,6 +21,9 @@ use lib.Dec.{T}
 use Rattle.roles.specs.Sets.{single, allBelow, joined, without, shares, partOf}
 use Rattle.meaning.specs.declared.Happening.{Happening}
 use Rattle.meaning.specs.declared.Happening.the-variants.{Allow, Deny, Given, Withdrawn}
+
+abbrev pub lastPermission : ℕ
+lastPermission = 4294967295
 
 unfoldable pub about : Happening → ℕ
 about (Allow s) = s .bits

@@ -1,6 +1,9 @@
 // What the cache is told: an event is a permission with one of four happenings.
 use roles::RoleSet;
 
+// Permissions are 1 to this one.
+pub const LAST_PERMISSION: u64 = 4294967295;
+
 // What a row may hold.
 pub const MOST_OPENS: usize = 15;
 

@@ -8,16 +8,18 @@ use native.Mathlib.Omega.{arith}
 use lib.ListN.{length, drop, drop-of-length-le}
 use lib.Seq.{drop-drop}
 use Rattle.roles.specs.declared.RoleSet.{RoleSet}
+use Rattle.roles.specs.Sets.{lastRole, mostRoles}
+use Rattle.meaning.specs.Events.{lastPermission}
 use Rattle.text.specs.Ascii.{space}
 use Rattle.text.specs.Number.{numberText, Got, found, bad, isDigit, digitNext, nextIs, readNumber}
-use Rattle.text.specs.Set.{lastRole, mostRoles, setText, readSet, readRoles, readRole}
+use Rattle.text.specs.Set.{setText, readSet, readRoles, readRole}
 use Rattle.text.specs.Field.{numberField, setField}
 use Rattle.text.specs.declared.NumberField.the-variants as number
 use Rattle.text.specs.declared.SetField.the-variants as set
 use Rattle.text.proofs.NumberLaws.{next-is, bad≢found, number-back, number-only}
 use Rattle.text.proofs.SetLaws.{set-back, set-only}
 use Rattle.text.proofs.Walks.{next-cons, number-read, set-read}
-use Rattle.requests.specs.Fields.{lastPermission, fieldOf, got, ended, lastNumber, lastSet, permissionSet, permissionRole}
+use Rattle.requests.specs.Fields.{fieldOf, got, ended, lastNumber, lastSet, permissionSet, permissionRole}
 use Rattle.requests.specs.Request.{spaced, spacedSet}
 
 -- ---- what was printed reads back

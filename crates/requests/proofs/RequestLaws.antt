@@ -9,14 +9,15 @@ use borrow.Author.Tests.{eqb-true, ne-eqb}
 use lib.Dec.{eqb}
 use lib.ListN.{length, drop, getD, length-append}
 use Rattle.roles.specs.declared.RoleSet.{RoleSet}
+use Rattle.roles.specs.Sets.{lastRole}
 use Rattle.meaning.specs.declared.Happening.{Happening}
 use Rattle.meaning.specs.declared.Happening.the-variants.{Allow, Deny, Given, Withdrawn}
+use Rattle.meaning.specs.Events.{lastPermission}
 use Rattle.text.specs.Ascii.{space, lf, Lacks}
 use Rattle.text.specs.Number.{numberText}
-use Rattle.text.specs.Set.{lastRole}
 use Rattle.text.proofs.Shape.{lacks-append}
 use Rattle.text.proofs.Theorems.{number32-length, set-length, number-lacks-lf, set-lacks-lf}
-use Rattle.requests.specs.Fields.{lastCount, lastPermission}
+use Rattle.requests.specs.Fields.{lastCount}
 use Rattle.requests.specs.Request.{letterO, letterA, letterD, letterG, letterR, letterQ, letterF, letterS, spaced, spacedSet, eventText, requestText, HappeningInRange, InRange, told, byLetter, requestOf}
 use Rattle.requests.specs.declared.Request.{Request}
 use Rattle.requests.specs.declared.Request.the-variants.{Open, Told, Decide, Forget, Show, Unreadable}

@@ -1,5 +1,5 @@
 -- The fields behind a line's letter, read up to the end of the line. `k` says what comes of fields that read, and `other` is given where they do not.
---     lastCount, lastPermission    the largest n and p that a line can say
+--     lastCount                    the largest n that a line can say
 --     fieldOf t                    the bytes behind the space that t begins with; without a space none, in which no field reads
 --     got other k g                `k` of what was found
 --     ended other a t              a, if the line ends here
@@ -12,15 +12,14 @@ use mathlib.Core.List.{List, [], _∷_}
 use Prim.Native.Nat.{ℕ}
 use lib.ListN.{drop}
 use Rattle.roles.specs.declared.RoleSet.{RoleSet}
+use Rattle.roles.specs.Sets.{lastRole}
+use Rattle.meaning.specs.Events.{lastPermission}
 use Rattle.text.specs.Ascii.{space}
 use Rattle.text.specs.Number.{Got, found, bad, nextIs, readNumber}
-use Rattle.text.specs.Set.{lastRole, readSet}
+use Rattle.text.specs.Set.{readSet}
 
 abbrev pub lastCount : ℕ
 lastCount = 255
-
-abbrev pub lastPermission : ℕ
-lastPermission = 4294967295
 
 unfoldable pub fieldOf : List ℕ → List ℕ
 fieldOf t = cond (nextIs space t) (drop 1 t) []

@@ -10,12 +10,14 @@ use mathlib.Core.List.{List, [], _∷_, _++_}
 use Prim.Native.Nat.{ℕ, _^_, _≤_, _<_}
 use lib.Dec.{eqb}
 use Rattle.roles.specs.declared.RoleSet.{RoleSet}
+use Rattle.roles.specs.Sets.{lastRole, mostRoles}
 use Rattle.meaning.specs.declared.Happening.{Happening}
 use Rattle.meaning.specs.declared.Happening.the-variants.{Allow, Deny, Given, Withdrawn}
+use Rattle.meaning.specs.Events.{lastPermission}
 use Rattle.text.specs.Ascii.{space}
 use Rattle.text.specs.Number.{numberText}
-use Rattle.text.specs.Set.{lastRole, mostRoles, setText}
-use Rattle.requests.specs.Fields.{lastCount, lastPermission, ended, lastNumber, permissionSet, permissionRole}
+use Rattle.text.specs.Set.{setText}
+use Rattle.requests.specs.Fields.{lastCount, ended, lastNumber, permissionSet, permissionRole}
 use Rattle.requests.specs.declared.Request.{Request}
 use Rattle.requests.specs.declared.Request.the-variants.{Open, Told, Decide, Forget, Show, Unreadable}
 

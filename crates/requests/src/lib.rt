@@ -1,6 +1,8 @@
 // One line of bytes, read as a request of the line program.
 use meaning::Event;
 use meaning::Happening;
+use meaning::LAST_PERMISSION;
+use roles::LAST_ROLE;
 use roles::RoleSet;
 use text::NumberField;
 use text::SetField;
@@ -15,12 +17,6 @@ ghost use Rattle.requests.specs.Request.{letterO, letterA, letterD, lett
 
 // The largest role count that a line can say.
 const LAST_COUNT: u64 = 255;
-
-// The largest permission.
-const LAST_PERMISSION: u64 = 4294967295;
-
-// The largest role.
-const LAST_ROLE: u64 = 63;
 
 // What a line asks for.
 pub enum Request {

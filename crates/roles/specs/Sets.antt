@@ -1,4 +1,6 @@
 -- Role sets as numbers: role r is the bit of weight 2 ^ r. Definitions only; the laws are in `proofs/`.
+--     mostRoles          so many roles there may be
+--     lastRole           the last of them
 --     has s r, In s r    role r is in s
 --     single r           the set of the role r alone
 --     allBelow n         the set of all roles below n
@@ -13,6 +15,12 @@ use Prim.Native.Nat.{ℕ, _-_, _/_, _%_, _^_}
 use lib.Bits.{bitAnd, bitOr, bitXor}
 use lib.Dec.{T, eqb}
 
+abbrev pub mostRoles : ℕ
+mostRoles = 64
+
+abbrev pub lastRole : ℕ
+lastRole = mostRoles - 1
+
 unfoldable pub has : ℕ → ℕ → Bool
 has s r = eqb (s / 2 ^ r % 2) 1
 
@@ -26,7 +34,7 @@ unfoldable pub allBelow : ℕ → ℕ
 allBelow n = 2 ^ n - 1
 
 unfoldable pub below64 : ℕ → ℕ
-below64 s = s % 2 ^ 64
+below64 s = s % 2 ^ mostRoles
 
 unfoldable pub joined : ℕ → ℕ → ℕ
 joined s t = bitOr s t

@@ -1,6 +1,11 @@
-// A set of roles: a 64-bit number in which role r is the bit of weight 2^r.
+// Roles are numbers from 0 on. A set of them is a 64-bit number in which role r is the bit of weight 2^r.
 ghost use mathlib.Core.Path.{_≡_};
 ghost use Rattle.roles.specs.Sets.{has, joined, without, shares, partOf, allBelow, single, below64};
+
+// So many roles there may be, and the last of them.
+pub const MOST_ROLES: u64 = 64;
+
+pub const LAST_ROLE: u64 = MOST_ROLES - 1;
 
 pub struct RoleSet {
     pub bits: u64,
@@ -14,7 +19,7 @@ impl RoleSet {
     pub fn all_below(n: u64) -> RoleSet
         ensures { λ s. ⌜ s .bits ≡ below64 (allBelow n) ⌝ }
     {
-        if 64 <= n {
+        if MOST_ROLES <= n {
             return RoleSet {
                 bits: 0xffff_ffff_ffff_ffff,
             };
@@ -26,7 +31,7 @@ impl RoleSet {
     pub fn single(r: u64) -> RoleSet
         ensures { λ s. ⌜ s .bits ≡ below64 (single r) ⌝ }
     {
-        if 64 <= r {
+        if MOST_ROLES <= r {
             return RoleSet::EMPTY;
         }
         RoleSet { bits: 1 << r }
@@ -36,7 +41,7 @@ impl RoleSet {
     pub fn has(self, r: u64) -> bool
         ensures { λ b. ⌜ b ≡ has (self .bits) r ⌝ }
     {
-        if 64 <= r {
+        if MOST_ROLES <= r {
             return false;
         }
         (self.bits >> r) % 2 == 1

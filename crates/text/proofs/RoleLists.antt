@@ -8,10 +8,10 @@ use native.Mathlib.Decide.{decLt}
 use native.Mathlib.Omega.{arith}
 use lib.Bits.{or-zero-r}
 use lib.Dec.{T}
-use Rattle.roles.specs.Sets.{has, In, single, joined}
+use Rattle.roles.specs.Sets.{has, In, single, joined, lastRole, mostRoles}
 use Rattle.roles.proofs.Member.{T-ext, in-empty, in-single, in-joined, set-ext, below-law}
 use Rattle.roles.proofs.Laws.{in⇒nonempty}
-use Rattle.text.specs.Set.{lastRole, mostRoles, rolesFrom, rolesOf}
+use Rattle.text.specs.Set.{rolesFrom, rolesOf}
 
 -- strictly ascending from `low` to the last role
 abbrev pub From : ℕ → List ℕ → Type 0

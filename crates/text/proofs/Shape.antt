@@ -8,9 +8,10 @@ use native.Mathlib.Decide.{decLt}
 use native.Mathlib.Omega.{arith}
 use lib.Dec.{eqb}
 use lib.ListN.{length, length-append}
+use Rattle.roles.specs.Sets.{mostRoles}
 use Rattle.text.specs.Ascii.{digitZero, comma, minus, Lacks}
 use Rattle.text.specs.Number.{numberText, isDigit}
-use Rattle.text.specs.Set.{mostRoles, rolesOf, roleText, rolesText, setText}
+use Rattle.text.specs.Set.{rolesOf, roleText, rolesText, setText}
 use Rattle.text.proofs.NumberLaws.{text-small, text-step, digit-yes}
 use Rattle.text.proofs.RoleLists.{From, roles-from}
 

@@ -10,11 +10,11 @@ use native.Mathlib.Omega.{arith}
 use lib.Dec.{eqb}
 use lib.ListN.{length, take, drop, getD, drop-of-length-le, length-drop, length-append, take-append-drop}
 use lib.Seq.{drop-cons, drop-at, drop-drop}
-use Rattle.roles.specs.Sets.{single, joined}
+use Rattle.roles.specs.Sets.{single, joined, lastRole, mostRoles}
 use Rattle.roles.specs.declared.RoleSet.{RoleSet}
 use Rattle.text.specs.Ascii.{comma}
 use Rattle.text.specs.Number.{numberText, Got, found, bad, isDigit, digitNext, nextIs, readNumber}
-use Rattle.text.specs.Set.{lastRole, mostRoles, setText, readRoles, readSet}
+use Rattle.text.specs.Set.{setText, readRoles, readSet}
 use Rattle.text.specs.Field.{numberField, setField}
 use Rattle.text.specs.declared.NumberField.the-variants as number
 use Rattle.text.specs.declared.SetField.the-variants as set

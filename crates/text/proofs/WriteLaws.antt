@@ -9,10 +9,10 @@ use native.Mathlib.Omega.{arith}
 use borrow.Author.Tests.{eq-eqb, ne-eqb}
 use lib.ListN.{length, take, drop, set, length-append}
 use lib.Seq.{sets, length-sets, sets-eq}
-use Rattle.roles.specs.Sets.{has}
+use Rattle.roles.specs.Sets.{has, mostRoles}
 use Rattle.text.specs.Ascii.{digitZero, comma, minus}
 use Rattle.text.specs.Number.{numberText}
-use Rattle.text.specs.Set.{mostRoles, rolesFrom, rolesOf, roleText, rolesText, setText}
+use Rattle.text.specs.Set.{rolesFrom, rolesOf, roleText, rolesText, setText}
 use Rattle.text.specs.Write.{Wrote}
 use Rattle.text.proofs.NumberLaws.{text-small, text-step}
 

@@ -1,5 +1,4 @@
 -- Role sets as text: `-` for the empty one, or roles strictly ascending, parted by commas.
---     lastRole, mostRoles     roles are 0 to 63, so a set has at most 64
 --     rolesFrom k r s         the roles of s among the k from r on, ascending
 --     rolesOf s               the roles of s
 --     roleText later r        the role r, with a comma before it where others stand before it
@@ -14,15 +13,9 @@ use mathlib.Core.List.{List, [], _∷_, _++_}
 use Prim.Native.Nat.{ℕ, zero, suc}
 use lib.Dec.{ltb, eqb}
 use lib.ListN.{drop}
-use Rattle.roles.specs.Sets.{has, single, joined}
+use Rattle.roles.specs.Sets.{mostRoles, lastRole, has, single, joined}
 use Rattle.text.specs.Ascii.{comma, minus}
 use Rattle.text.specs.Number.{numberText, Got, found, bad, digitNext, nextIs, readNumber}
-
-abbrev pub lastRole : ℕ
-lastRole = 63
-
-abbrev pub mostRoles : ℕ
-mostRoles = 64
 
 unfoldable pub rolesFrom : ℕ → ℕ → ℕ → List ℕ
 rolesFrom zero r s = []

@@ -1,15 +1,14 @@
 // Numbers and role sets as text: what a field of a line reads as, and how it is written.
+use roles::LAST_ROLE;
 use roles::RoleSet;
 ghost use mathlib.Core.Path.{_≡_};
 ghost use Prim.Native.Nat.{_+_, _^_, _≤_, _<_};
 ghost use lib.ListN.{length, drop};
+ghost use Rattle.roles.specs.Sets.{mostRoles};
 ghost use Rattle.text.specs.Number.{numberText, digitNext, nextIs, readMore, readNumber};
-ghost use Rattle.text.specs.Set.{mostRoles, roleText, setText, readRoles, readSet};
+ghost use Rattle.text.specs.Set.{roleText, setText, readRoles, readSet};
 ghost use Rattle.text.specs.Field.{numberField, setField};
 ghost use Rattle.text.specs.Write.{Wrote};
-
-// The highest role that a set's text can name.
-const LAST_ROLE: u64 = 63;
 
 // What a number's field reads as: its value and the place behind it.
 pub enum NumberField {

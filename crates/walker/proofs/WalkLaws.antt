@@ -12,7 +12,8 @@ use lib.Dec.{T}
 use lib.ListN.{length}
 use borrow.Author.Tests.{lt-ltb, le-ltb}
 use Rattle.roles.proofs.Member.{T-true}
-use Rattle.area.specs.Layout.{mostRows, lastPermission, goodBytes}
+use Rattle.meaning.specs.Events.{lastPermission}
+use Rattle.area.specs.Layout.{mostRows, goodBytes}
 use Rattle.area.specs.State.{stateOf}
 use Rattle.area.proofs.RowLaws.{row-good}
 use Rattle.area.proofs.Bytes.{good-state}

@@ -5,10 +5,11 @@ use mathlib.Core.List.{List}
 use Prim.Native.Nat.{ℕ, _≤_}
 use native.Mathlib.Omega.{arith}
 use lib.ListN.{length, drop}
+use Rattle.roles.specs.Sets.{lastRole}
+use Rattle.meaning.specs.Events.{lastPermission}
 use Rattle.text.specs.Number.{found, readNumber}
-use Rattle.text.specs.Set.{lastRole}
 use Rattle.text.proofs.Walks.{number-bad}
-use Rattle.requests.specs.Fields.{lastPermission, fieldOf, lastNumber, permissionRole}
+use Rattle.requests.specs.Fields.{fieldOf, lastNumber, permissionRole}
 use Rattle.requests.specs.declared.PermissionRole.the-variants as role
 use Rattle.requests.proofs.FieldLaws.{number-spaced, permission-role-is}
 use Rattle.requests.proofs.Made.{of-number}

@@ -6,9 +6,10 @@ use Prim.Native.Nat.{ℕ, _≤_}
 use native.Mathlib.Omega.{arith}
 use lib.Arith.{lt-of-le-ne}
 use lib.ListN.{length, drop}
+use Rattle.meaning.specs.Events.{lastPermission}
 use Rattle.text.specs.Number.{found, readNumber}
 use Rattle.text.proofs.Walks.{number-bad, set-bad}
-use Rattle.requests.specs.Fields.{lastPermission, fieldOf, lastSet, permissionSet}
+use Rattle.requests.specs.Fields.{fieldOf, lastSet, permissionSet}
 use Rattle.requests.specs.declared.PermissionSet.the-variants as set
 use Rattle.requests.proofs.FieldLaws.{number-spaced, set-spaced, ended-there, ended-later, set-is, permission-set-is}
 use Rattle.requests.proofs.permission_set.Statement.{statement}

@@ -6,10 +6,9 @@ use Prim.Native.Nat.{ℕ, _-_}
 use native.Mathlib.Omega.{arith}
 use borrow.Author.Tests.{not-true, not-false}
 use lib.ListN.{drop}
-use Rattle.roles.specs.Sets.{single, joined}
+use Rattle.roles.specs.Sets.{single, joined, lastRole, mostRoles}
 use Rattle.roles.proofs.Laws.{below64-single}
 use Rattle.text.specs.Number.{found, readNumber}
-use Rattle.text.specs.Set.{lastRole, mostRoles}
 use Rattle.text.specs.Field.{setField}
 use Rattle.text.proofs.Walks.{NumberThere, number-read, number-bad, RolesLeft, roles-start, roles-none, roles-fall, roles-end, roles-comma, set-here}
 use Rattle.text.proofs.read_roles.Statement.{statement}

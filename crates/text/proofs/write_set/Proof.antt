@@ -5,8 +5,9 @@ use mathlib.Core.Bool.{true}
 use Prim.Native.Nat.{_+_, _-_, _≤_}
 use native.Mathlib.Omega.{arith}
 use lib.ListN.{length}
+use Rattle.roles.specs.Sets.{mostRoles}
 use Rattle.text.specs.Ascii.{minus}
-use Rattle.text.specs.Set.{mostRoles, roleText, setText}
+use Rattle.text.specs.Set.{roleText, setText}
 use Rattle.text.proofs.WriteLaws.{wrote-one, Left, left-start, left-next, left-room, left-end, empty-text, restText, rest-start, rest-has, rest-lacks, rest-end}
 use Rattle.text.proofs.write_set.Statement.{statement}
 use Rattle.text.proofs.write_set.Tie as tie

@@ -6,8 +6,8 @@ use borrow.Author.Tests.{eq-eqb, ne-eqb}
 use lib.ListN.{length}
 use Rattle.words.specs.Words.{words}
 use Rattle.roles.proofs.Laws.{below64-allBelow}
-use Rattle.roles.specs.Sets.{allBelow}
-use Rattle.area.specs.Layout.{mostRoles, mostRows, areaBytes, rowsUsed, eachBelow, goodRowAt, goodArea, goodBytes}
+use Rattle.roles.specs.Sets.{allBelow, mostRoles}
+use Rattle.area.specs.Layout.{mostRows, areaBytes, rowsUsed, eachBelow, goodRowAt, goodArea, goodBytes}
 use Rattle.area.specs.Parts.{zeroRows}
 use Rattle.area.proofs.CheckLaws.{area-long, no-roles, many-roles, many-rows, area-made}
 use borrow.Author.Needs.{needs}
