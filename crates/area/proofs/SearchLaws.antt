@@ -4,6 +4,7 @@ use mathlib.Core.Bool.{Bool, true, false, cond, _||_}
 use mathlib.Core.List.{List, [], _∷_, _++_}
 use mathlib.Core.Logic.{inl, inr, ⊎-elim}
 use Prim.Native.Nat.{ℕ, zero, suc, _+_, _-_, _≤_, _<_}
+use native.Mathlib.Nat.{add-zero, zero-add}
 use native.Mathlib.Omega.{arith}
 use borrow.Author.Tests.{lt-ltb, le-ltb}
 use lib.Dec.{T, ltb, lt→ltb, ltb→lt}
@@ -50,7 +51,7 @@ below-suc m n = T-ext (ltb (suc m) (suc n)) (ltb m n) (
 )
 
 -- before number i exactly when one of the first i is a part
-pub first-before : (s : ℕ) (l : List ℕ) (i : ℕ) → i ≤ length l → ltb (firstPart s l) i ≡ hasPart s (take i l)
+first-before : (s : ℕ) (l : List ℕ) (i : ℕ) → i ≤ length l → ltb (firstPart s l) i ≡ hasPart s (take i l)
 unfolding firstPart hasPart any
 first-before s l zero h = le-ltb (firstPart s l) 0 (omega arith)
 first-before s [] (suc i) h = absurd (omega arith)
@@ -71,6 +72,12 @@ search-most s ws at i k b h t =
     let m = first-most s (drop (at + k) ws) (i - k) (omega (arith, length-drop (at + k) ws))
     (ap (λ (x : ℕ). partOf x s) (getD-drop (at + k) ws (i - k) 0 ∙ ap (λ (j : ℕ). getD ws j 0) e) ∙ t) in
     omega arith
+
+-- the search among the i words from number `at` on
+pub search-parts : (s : ℕ) (ws : List ℕ) (at i r : ℕ) → at + i ≤ length ws → r ≡ 0 + firstPart s (drop (at + 0) ws) → ltb r i ≡ hasPart s (take i (drop at ws))
+search-parts s ws at i r b e =
+    ap (λ (k : ℕ). ltb k i) (e ∙ zero-add (firstPart s (drop (at + 0) ws)) ∙ ap (λ (k : ℕ). firstPart s (drop k ws)) (add-zero at))
+    ∙ first-before s (drop at ws) i (omega (arith, length-drop at ws))
 
 -- ---- parts of two sets at once
 

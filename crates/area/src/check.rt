@@ -24,11 +24,11 @@ ghost use Rattle.area.specs.Parts.{firstPart, standApart, opensSure, pla
 // So many unused rows are looked at together, as straight code.
 const STRIDE: usize = 8;
 
-// From so many open sets on, two at a time are held against the earlier ones.
+// From so many open sets on, two at a time are held against the earlier ones; fewer are straight code, where that gains nothing.
 const MANY: usize = 4;
 
-// The number, from word `at` on, of the first word from number k on that is part of s. There must be one, so the search
-// needs no bound.
+// Counted from word `at` on, the number of the first word from number k on that is part of s. There must be one, so the
+// search needs no bound.
 fn first_part(a: &[u8], at: usize, k: usize, s: RoleSet) -> usize
     requires { ⌜ Spans (now a) (at + k + firstPart (s .bits) (drop (at + k) (words (now a))) + 1) ⌝ }
     ensures { λ r. ⌜ r ≡ k + firstPart (s .bits) (drop (at + k) (words (now (a .entry)))) ⌝ }
@@ -46,25 +46,17 @@ fn first_part(a: &[u8], at: usize, k: usize, s: RoleSet) -> usize
     r
 }
 
-// Whether one of the i words from number `at` on is part of the next. The search needs no bound: that one is part of itself.
-fn has_part_before(a: &[u8], at: usize, i: usize) -> bool
-    requires { ⌜ Spans (now a) (at + i + 1) ⌝ }
-    ensures { λ r. ⌜ r ≡ hasPart (getD (words (now (a .entry))) (at + i) 0) (take i (drop at (words (now (a .entry))))) ⌝ }
-{
-    let s = RoleSet {
-        bits: get_word(a, at + i),
-    };
-    first_part(a, at, 0, s) < i
-}
-
-// Whether none of the c words from number `at` on is part of a later one.
+// Whether none of the c words from number `at` on is part of a later one. Each is part of itself, where its search ends.
 fn stand_apart(a: &[u8], at: usize, c: usize) -> bool
     requires { ⌜ Spans (now a) (at + c) ⌝ }
     ensures { λ r. ⌜ r ≡ standApart (take c (drop at (words (now (a .entry))))) ⌝ }
 {
     let mut i: usize = 1;
     while i < c {
-        if has_part_before(a, at, i) {
+        let s = RoleSet {
+            bits: get_word(a, at + i),
+        };
+        if first_part(a, at, 0, s) < i {
             return false;
         }
         i += 1;
@@ -72,8 +64,8 @@ fn stand_apart(a: &[u8], at: usize, c: usize) -> bool
     true
 }
 
-// Whether one of the i words from number `at` on is part of s or of t, the two next, or s part of t. What is part of one of
-// these is part of their union: that takes one test, and few words pass it.
+// Whether one of the i words from number `at` on is part of s or of t, the next two, or s part of t. What is part of one of
+// these is part of their union: one test for both, which few words pass.
 fn has_part_of_two(a: &[u8], at: usize, i: usize, s: RoleSet, t: RoleSet) -> bool
     requires { ⌜ Spans (now a) (at + i + 2) × (s .bits ≡ getD (words (now a)) (at + i) 0) × (t .bits ≡ getD (words (now a)) (at + (i + 1)) 0) ⌝ }
     ensures { λ r. ⌜ r ≡ (hasPart (s .bits) (take i (drop at (words (now (a .entry))))) || hasPart (t .bits) (take (i + 1) (drop at (words (now (a .entry)))))) ⌝ }
@@ -95,8 +87,8 @@ fn has_part_of_two(a: &[u8], at: usize, i: usize, s: RoleSet, t: RoleSet) -> boo
     false
 }
 
-// Whether the c words from number `at` on are good open sets beside the denied set d, where `all` has all roles below n:
-// from the last to the first, each at most the next, two in a turn. The first one is left, or looked at once more.
+// Whether the c words from number `at` on are good open sets beside the denied set d, where `all` has all roles below n.
+// From the last to the first, two in a turn, each at most the next. The first one is then left, or looked at once more.
 fn opens_many(a: &[u8], at: usize, c: usize, d: RoleSet, all: RoleSet) -> bool
     requires { ⌜ Spans (now a) (at + c) × (0 < c) × (all .bits ≡ allBelow (roleCount (words (now a)))) ⌝ }
     ensures { λ r. ⌜ r ≡ opensGood (roleCount (words (now (a .entry)))) (d .bits) (take c (drop at (words (now (a .entry))))) ⌝ }
@@ -152,8 +144,8 @@ fn opens_few(a: &[u8], at: usize, c: usize, d: RoleSet, all: RoleSet) -> bool
     !later.shares(d) & (next != 0) & stand_apart(a, at, c)
 }
 
-// Whether they are good and each has a role outside `later`, the union of the later ones: it is then not empty and part of
-// none of them.
+// Whether they are good and each has a role outside `later`, the union of the later ones, so that it is not empty and part
+// of none of them.
 fn opens_sure(a: &[u8], at: usize, c: usize, d: RoleSet, all: RoleSet) -> bool
     requires { ⌜ Spans (now a) (at + c) × (all .bits ≡ allBelow (roleCount (words (now a)))) ⌝ }
     ensures { λ r. ⌜ r ≡ opensSure (roleCount (words (now (a .entry)))) (d .bits) (take c (drop at (words (now (a .entry))))) ⌝ }

@@ -150,9 +150,9 @@ Recorded n w (e ∷ es) = T (known n e) × (settle e w .answer ≡ 0) × Recorde
 -- what the answer to an event says, and what stands afterwards
 pub record Settles (n : ℕ) (e : Happening) (w : Row) (t : Settled) : Type 0 where
   pub contradiction : (t .answer ≡ 6) ↔ ((h : ℕ) → Leaves n w h → ¬ (T (agrees e h)))
-  pub full : (t .answer ≡ 7) ↔ (Reply e × T (not (contradicts e w)) × (15 < length (step e w .opens)))
-  pub forgotten : (t .answer ≡ 8) ↔ (¬ (Reply e) × (15 < length (step e w .opens)))
-  pub recorded : (t .answer ≡ 0) ↔ (T (not (contradicts e w)) × (length (step e w .opens) ≤ 15))
+  pub full : (t .answer ≡ 7) ↔ (Reply e × T (not (contradicts e w)) × (mostOpens < length (step e w .opens)))
+  pub forgotten : (t .answer ≡ 8) ↔ (¬ (Reply e) × (mostOpens < length (step e w .opens)))
+  pub recorded : (t .answer ≡ 0) ↔ (T (not (contradicts e w)) × (length (step e w .opens) ≤ mostOpens))
   pub row-recorded : t .answer ≡ 0 → t .row ≡ step e w
   pub row-refused : (t .answer ≡ 6) ⊎ (t .answer ≡ 7) → t .row ≡ w
   pub row-forgotten : t .answer ≡ 8 → t .row ≡ blank
