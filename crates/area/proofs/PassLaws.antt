@@ -16,18 +16,20 @@ use Rattle.area.specs.Parts.{standApart, unionOf, eachOutside}
 use Rattle.area.proofs.OpensLaws.{climb, firstOr, apart-one, opens-parts, union-first}
 use Rattle.area.proofs.CheckLaws.{run-before}
 
--- sets that climb to at most m, their union, and the first of them
-abbrev pub Passed : ℕ → List ℕ → ℕ → ℕ → Type 0
-Passed m l later next = (climb m l ≡ true) × (later ≡ unionOf l) × (next ≡ firstOr m l)
+-- sets that climb to at most m, their union, and the first of them, or m
+pub record Passed (m : ℕ) (l : List ℕ) (later next : ℕ) : Type 0 where
+  pub climbs : climb m l ≡ true
+  pub union : later ≡ unionOf l
+  pub first : next ≡ firstOr m l
 
 module _ (m o : ℕ) (l : List ℕ) (later next : ℕ) (p : Passed m l later next) where
   one-more : {both : ℕ} → both ≡ joined o later → o ≤ next → Passed m (o ∷ l) both o
   unfolding climb unionOf
-  one-more e h = (ap₂ _&&_ (p .0) (ap (leb o) (sym (p .2)) ∙ le-leb o next h), e ∙ ap (joined o) (p .1), refl)
+  one-more e h = record { climbs = ap₂ _&&_ (p .climbs) (ap (leb o) (sym (p .first)) ∙ le-leb o next h); union = e ∙ ap (joined o) (p .union); first = refl }
 
   one-falls : next < o → climb m (o ∷ l) ≡ false
   unfolding climb
-  one-falls h = ap (λ (b : Bool). climb m l && b) (ap (leb o) (sym (p .2)) ∙ lt-leb o next h) ∙ and-false (climb m l)
+  one-falls h = ap (λ (b : Bool). climb m l && b) (ap (leb o) (sym (p .first)) ∙ lt-leb o next h) ∙ and-false (climb m l)
 
 -- of the c words from number `at` on, those from number j on
 abbrev pub PassedFrom : List ℕ → ℕ → ℕ → ℕ → ℕ → ℕ → ℕ → Type 0
@@ -43,7 +45,7 @@ module _ (ws : List ℕ) (at c m : ℕ) (b : at + c ≤ length ws) where
 
   pub passed-none : PassedFrom ws at c m c 0 m
   unfolding climb unionOf
-  passed-none = (omega arith, rw run-none (refl, refl, refl))
+  passed-none = (omega arith, rw run-none (record { climbs = refl; union = refl; first = refl }))
 
   module _ (j later next o : ℕ) (p : PassedFrom ws at c m j later next) (h : 0 < j) (here : o ≡ getD ws (at + j - 1) 0) where
     pub passed-one : {both : ℕ} → both ≡ joined o later → o ≤ next → PassedFrom ws at c m (j - 1) both o
@@ -101,8 +103,8 @@ module _ (n d m : ℕ) (e : m ≡ allBelow n) (o : ℕ) (l : List ℕ) (a : stan
 
   from-passed : (k later next : ℕ) → k ≤ 1 → Passed m (drop k (o ∷ l)) later next → ((leb o next && not (shares (joined o later) d)) && not (eqb o 0)) ≡ opensGood n d (o ∷ l)
   unfolding climb unionOf
-  from-passed zero later next h p = from-parts (ap (leb o) (p .2) ∙ le-leb o o (omega arith) ∙ sym (p .0)) (ap (joined o) (p .1) ∙ union-first o l)
-  from-passed (suc zero) later next h p = from-parts (sym (ap₂ _&&_ (p .0) (ap (leb o) (sym (p .2))))) (ap (joined o) (p .1))
+  from-passed zero later next h p = from-parts (ap (leb o) (p .first) ∙ le-leb o o (omega arith) ∙ sym (p .climbs)) (ap (joined o) (p .union) ∙ union-first o l)
+  from-passed (suc zero) later next h p = from-parts (sym (ap₂ _&&_ (p .climbs) (ap (leb o) (sym (p .first))))) (ap (joined o) (p .union))
   from-passed (suc (suc k)) later next h p = absurd (omega arith)
 
 pub passed-all : (n d m : ℕ) (e : m ≡ allBelow n) (l : List ℕ) (o k later next : ℕ) → 0 < length l → o ≡ getD l 0 0 → standApart l ≡ true → k ≤ 1 → Passed m (drop k l) later next

@@ -61,9 +61,9 @@ returns-2 c =
     let end : at .j ≡ 0 = omega arith in
     let some : 0 < a .c = s .pre .1 in
     ap₂ _&&_
-    (ap₂ (λ (x : Bool) (y : ℕ). not x && not (eqb y 0)) (c .before .shares .ensures ∙ ap (λ (x : ℕ). shares x (a .d .bits)) (rw end at (at .inv .1 .1))) (rw end at (at .inv .1 .2)))
+    (ap₂ (λ (x : Bool) (y : ℕ). not x && not (eqb y 0)) (c .before .shares .ensures ∙ ap (λ (x : ℕ). shares x (a .d .bits)) (rw end at (at .inv .1 .union))) (rw end at (at .inv .1 .first)))
     (c .stand-apart .ensures)
-    ∙ opens-compared (roleCount ws) (a .d .bits) (a .all .bits) (s .pre .2) l (omega (arith, length-run ws (a .at) (a .c) (long s))) (rw end at (at .inv .1 .0))
+    ∙ opens-compared (roleCount ws) (a .d .bits) (a .all .bits) (s .pre .2) l (omega (arith, length-run ws (a .at) (a .c) (long s))) (rw end at (at .inv .1 .climbs))
 
 pub opens-few-spec : {M : Type 1} → statement M
 opens-few-spec =

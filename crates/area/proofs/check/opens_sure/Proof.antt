@@ -57,7 +57,7 @@ returns-2 c =
     let both = c .before .before .before .joined in
     sure-ends (roleCount (words (a .a .now))) (a .d .bits) (a .all .bits) (s .pre .1) (at .j - 1) l
     (ap eachOutside (run-before (words (a .a .now)) (a .at) (a .c) (at .j) (o .result) (search needs) (at .inv .0 .0) (long s) (o .ensures))
-    ∙ outside-ends (o .result) (drop (at .j) l) (at .later .bits) (both .result .bits) (at .inv .0 .1 .1) (both .ensures) (c .if2 .taken))
+    ∙ outside-ends (o .result) (drop (at .j) l) (at .later .bits) (both .result .bits) (at .inv .0 .1 .union) (both .ensures) (c .if2 .taken))
 
 loop-again : tie.Need-loop-again Inv-loop μ-loop
 loop-again c =
@@ -70,7 +70,7 @@ loop-again c =
       passed-one (words (a .a .now)) (a .at) (a .c) (a .all .bits) (long s) (at .j) (at .later .bits) (at .next) (o .result) (at .inv .0) (search needs) (o .ensures)
           (both .ensures) (search needs),
       ap eachOutside (run-before (words (a .a .now)) (a .at) (a .c) (at .j) (o .result) (search needs) (at .inv .0 .0) (long s) (o .ensures))
-          ∙ outside-more (o .result) (drop (at .j) l) (at .later .bits) (both .result .bits) (at .inv .0 .1 .1) (both .ensures) (c .if2 .left)
+          ∙ outside-more (o .result) (drop (at .j) l) (at .later .bits) (both .result .bits) (at .inv .0 .1 .union) (both .ensures) (c .if2 .left)
           ∙ at .inv .1,
     )
 
@@ -81,8 +81,8 @@ returns-3 c =
     let a = s .args in
     let l = take (a .c) (drop (a .at) (words (a .a .now))) in
     let end : at .j ≡ 0 = omega arith in
-    ap not (c .shares .ensures ∙ ap (λ (x : ℕ). shares x (a .d .bits)) (rw end at (at .inv .0 .1 .1)))
-    ∙ sure-made (roleCount (words (a .a .now))) (a .d .bits) (a .all .bits) (s .pre .1) l (rw end at (at .inv .0 .1 .0)) (rw end at (at .inv .1))
+    ap not (c .shares .ensures ∙ ap (λ (x : ℕ). shares x (a .d .bits)) (rw end at (at .inv .0 .1 .union)))
+    ∙ sure-made (roleCount (words (a .a .now))) (a .d .bits) (a .all .bits) (s .pre .1) l (rw end at (at .inv .0 .1 .climbs)) (rw end at (at .inv .1))
 
 pub opens-sure-spec : {M : Type 1} → statement M
 opens-sure-spec =
