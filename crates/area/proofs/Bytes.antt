@@ -13,6 +13,7 @@ use Rattle.words.specs.Words.{words, bytesOf}
 use Rattle.words.proofs.Laws.{Bytes, length-words, length-bytesOf, bytes-bytesOf, words-bytesOf, bytesOf-words}
 use Rattle.meaning.specs.Lists.{Mem}
 use Rattle.meaning.specs.Rows.{mostOpens}
+use Rattle.meaning.proofs.ListLaws.{mem-take}
 use Rattle.area.specs.Layout.{mostRows, contentWords, bodyWords, areaBytes, goodArea, goodBytes}
 use Rattle.area.specs.State.{Entry, State, GoodState, pad, each, content, body, header, wordsOf, areaOf, heldBy, stateOf}
 use Rattle.area.proofs.RowLaws.{none, GoodEntry, row-good}
@@ -24,11 +25,6 @@ use Rattle.area.proofs.Rules.{area-holds, held-is, state-area}
 mem-append : (x : ℕ) (a b : List ℕ) → Mem x (a ++ b) → Mem x a ⊎ Mem x b
 mem-append x [] b m = inr m
 mem-append x (y ∷ a) b m = ⊎-elim (λ e. inl (inl e)) (λ k. ⊎-elim (λ q. inl (inr q)) (λ q. inr q) (mem-append x a b k)) m
-
-mem-take : (x n : ℕ) (l : List ℕ) → Mem x (take n l) → Mem x l
-mem-take x zero l m = absurd m
-mem-take x (suc n) [] m = absurd m
-mem-take x (suc n) (y ∷ l) m = ⊎-elim (λ e. inl e) (λ k. inr (mem-take x n l k)) m
 
 mem-zeros : (x n : ℕ) → Mem x (replicate n 0) → x ≡ 0
 mem-zeros x zero m = absurd m

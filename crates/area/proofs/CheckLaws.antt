@@ -54,7 +54,7 @@ drop-run n at k l h =
     ∙ ap (λ (j : ℕ). getD l j 0) e
     ∙ sym (getD-take (n - k) (drop (at + k) l) i 0 c ∙ getD-drop (at + k) l i 0))
 
--- the word before the last but j, in front of them
+-- the words from number j - 1 on are the one there and those from number j on
 pub run-before : (ws : List ℕ) (at c j o : ℕ) → 0 < j → j ≤ c → at + c ≤ length ws → o ≡ getD ws (at + j - 1) 0
     → drop (j - 1) (take c (drop at ws)) ≡ o ∷ drop j (take c (drop at ws))
 run-before ws at c j o p h b here =

@@ -16,7 +16,7 @@ use Rattle.roles.proofs.Member.{T-and, T-ext, T-or, in-empty, in-joined, partOf
 use Rattle.roles.proofs.Laws.{partOf-refl, partOf-trans, shares-at}
 use Rattle.meaning.specs.Lists.{Mem, any}
 use Rattle.meaning.specs.Rows.{hasPart}
-use Rattle.meaning.proofs.ListLaws.{none-law}
+use Rattle.meaning.proofs.ListLaws.{none-law, mem-take}
 use Rattle.meaning.proofs.Walks.{any-one}
 use Rattle.area.specs.Layout.{allOf, belowFirst, openRules, opensGood}
 use Rattle.area.specs.Parts.{standApart, unionOf, eachOutside, opensSure}
@@ -34,11 +34,6 @@ unfolding standApart hasPart any
 apart-one [] s = refl
 apart-one (o ∷ l) s = rw (apart-one l s, any-one (partOf o) l s) (turned (any (partOf o) l) (partOf o s) (standApart l) (hasPart s l))
 
-mem-take : (k : ℕ) (l : List ℕ) (x : ℕ) → Mem x (take k l) → Mem x l
-mem-take zero l x m = absurd m
-mem-take (suc k) [] x m = m
-mem-take (suc k) (y ∷ l) x m = ⊎-elim (λ e. inl e) (λ n. inr (mem-take k l x n)) m
-
 apart-take : (k : ℕ) (l : List ℕ) → T (standApart l) → T (standApart (take k l))
 unfolding standApart
 apart-take zero l t = tt
@@ -46,7 +41,7 @@ apart-take (suc k) [] t = tt
 apart-take (suc k) (o ∷ l) t =
     let p = T-and (not (any (partOf o) l)) (standApart l) .0 t in
     T-and (not (any (partOf o) (take k l))) (standApart (take k l)) .1
-    (none-law (partOf o) (take k l) .1 (λ x m. none-law (partOf o) l .0 (p .0) x (mem-take k l x m)), apart-take k l (p .1))
+    (none-law (partOf o) (take k l) .1 (λ x m. none-law (partOf o) l .0 (p .0) x (mem-take x k l m)), apart-take k l (p .1))
 
 -- of sets that stand apart, the first k do
 pub apart-fewer : (k n : ℕ) (l : List ℕ) → k ≤ n → standApart (take n l) ≡ true → standApart (take k l) ≡ true
@@ -241,7 +236,7 @@ module _ (n d m : ℕ) (e : m ≡ allBelow n) where
             T-and ((c && u) && someFirst l) (standApart l) .1 (T-and (c && u) (someFirst l) .1 (T-and c u .1 (q .0, q .1), q .2), q .3),
       )
 
-  -- where the last but k do not climb, the sets are not good
+  -- where the sets from number k on do not climb, the sets are not good
   pub opens-fall : (k : ℕ) (l : List ℕ) → climb m (drop k l) ≡ false → false ≡ opensGood n d l
   opens-fall k l h = T-ext false (opensGood n d l) ((λ t. absurd t), λ t. subst T h (climb-drop m k l (good⇒parts l t .0)))
 

@@ -65,7 +65,7 @@ first-before s (o ∷ l) (suc i) h = go (partOf o s) (first-before s l i (omega 
 pub part-itself : (s o : ℕ) → s ≡ o → partOf o s ≡ true
 part-itself s o e = T-true (partOf o s) (subst (λ (x : ℕ). T (partOf o x)) (sym e) (partOf-refl o))
 
--- from number k on, no later than at a part of s of number i
+-- a search from number k on ends no later than at number i, if the word there is part of s
 pub search-most : (s : ℕ) (ws : List ℕ) (at i k : ℕ) → at + i < length ws → k ≤ i → partOf (getD ws (at + i) 0) s ≡ true → k + firstPart s (drop (at + k) ws) ≤ i
 search-most s ws at i k b h t =
     let e : at + k + (i - k) ≡ at + i = omega arith in
@@ -73,7 +73,7 @@ search-most s ws at i k b h t =
     (ap (λ (x : ℕ). partOf x s) (getD-drop (at + k) ws (i - k) 0 ∙ ap (λ (j : ℕ). getD ws j 0) e) ∙ t) in
     omega arith
 
--- the search among the i words from number `at` on
+-- the search ends before number i exactly when one of the i words from number `at` on is part of s
 pub search-parts : (s : ℕ) (ws : List ℕ) (at i r : ℕ) → at + i ≤ length ws → r ≡ 0 + firstPart s (drop (at + 0) ws) → ltb r i ≡ hasPart s (take i (drop at ws))
 search-parts s ws at i r b e =
     ap (λ (k : ℕ). ltb k i) (e ∙ zero-add (firstPart s (drop (at + 0) ws)) ∙ ap (λ (k : ℕ). firstPart s (drop k ws)) (add-zero at))
@@ -89,8 +89,9 @@ part-of-union : (s t o : ℕ) → T (partOfEither s t o) → T (partOf o (joined
 part-of-union s t o h = partOf-law o (joined s t) .1 (λ r i. in-joined s t r .1 (⊎-elim
     (λ k. inl (partOf-law o s .0 k r i)) (λ k. inr (partOf-law o t .0 k r i)) (T-or (partOf o s) (partOf o t) .0 h)))
 
-pub first-of-two : (s t o : ℕ) → s ≡ o → partOf o (joined s t) ≡ true
-first-of-two s t o e = T-true (partOf o (joined s t)) (part-of-union s t o (T-or (partOf o s) (partOf o t) .1 (inl (subst⁻¹ T (part-itself s o e) tt))))
+-- s is part of the union of s and t
+pub part-of-joined : (s t o : ℕ) → s ≡ o → partOf o (joined s t) ≡ true
+part-of-joined s t o e = T-true (partOf o (joined s t)) (part-of-union s t o (T-or (partOf o s) (partOf o t) .1 (inl (subst⁻¹ T (part-itself s o e) tt))))
 
 -- what is no part of the union is part of neither
 neither : (s t o : ℕ) → partOf o (joined s t) ≡ false → partOfEither s t o ≡ false

@@ -1,9 +1,9 @@
 -- Parts of the rules, which functions of the check test one by one.
---     firstPart s l          how many sets of the list stand before the first that is part of s
+--     firstPart s l          how many sets of the list stand before the first that is part of s; all of them, where none is
 --     standApart l           no set of the list is part of a later one
 --     unionOf l              the roles of all sets of the list
 --     eachOutside l          each set of the list has a role outside the union of the later ones
---     opensSure n d l        good open sets beside the denied set d, for which that alone shows that they stand apart
+--     opensSure n d l        good open sets beside the denied set d, each with a role outside the union of the later ones
 --     placesGood n d c l     behind the first c of the places l is nothing, and these have good open sets beside the denied set d
 --     goodButWide ws i       row i is good, but for its permission, which may be above the last valid one
 --     zeroRows ws i n        nothing stands in the n rows from row i on

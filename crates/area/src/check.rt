@@ -27,8 +27,8 @@ const STRIDE: usize = 8;
 // From so many open sets on, two at a time are held against the earlier ones; fewer are straight code, where that gains nothing.
 const MANY: usize = 4;
 
-// Counted from word `at` on, the number of the first word from number k on that is part of s. There must be one, so the
-// search needs no bound.
+// The number, counted from word `at`, of the first word from number k on that is part of s. One must be: the search has no
+// bound.
 fn first_part(a: &[u8], at: usize, k: usize, s: RoleSet) -> usize
     requires { ⌜ Spans (now a) (at + k + firstPart (s .bits) (drop (at + k) (words (now a))) + 1) ⌝ }
     ensures { λ r. ⌜ r ≡ k + firstPart (s .bits) (drop (at + k) (words (now (a .entry)))) ⌝ }
@@ -64,10 +64,10 @@ fn stand_apart(a: &[u8], at: usize, c: usize) -> bool
     true
 }
 
-// Whether one of the i words from number `at` on is part of s or of t, the next two, or s part of t. What is part of one of
-// these is part of their union: one test for both, which few words pass.
+// Whether one of the i words from number `at` on is part of s, the next one, or of t, or s part of t. One test of their union
+// passes over most words; s is part of it, so the search ends.
 fn has_part_of_two(a: &[u8], at: usize, i: usize, s: RoleSet, t: RoleSet) -> bool
-    requires { ⌜ Spans (now a) (at + i + 2) × (s .bits ≡ getD (words (now a)) (at + i) 0) × (t .bits ≡ getD (words (now a)) (at + (i + 1)) 0) ⌝ }
+    requires { ⌜ Spans (now a) (at + i + 1) × (s .bits ≡ getD (words (now a)) (at + i) 0) ⌝ }
     ensures { λ r. ⌜ r ≡ (hasPart (s .bits) (take i (drop at (words (now (a .entry))))) || hasPart (t .bits) (take (i + 1) (drop at (words (now (a .entry)))))) ⌝ }
 {
     if s.is_part_of(t) {
@@ -87,8 +87,8 @@ fn has_part_of_two(a: &[u8], at: usize, i: usize, s: RoleSet, t: RoleSet) -> boo
     false
 }
 
-// Whether the c words from number `at` on are good open sets beside the denied set d, where `all` has all roles below n.
-// From the last to the first, two in a turn, each at most the next. The first one is then left, or looked at once more.
+// `opens_good` for one word or more, quick for many: from the last to the first, two in a turn. The first is left over if c is
+// odd, else looked at once more.
 fn opens_many(a: &[u8], at: usize, c: usize, d: RoleSet, all: RoleSet) -> bool
     requires { ⌜ Spans (now a) (at + c) × (0 < c) × (all .bits ≡ allBelow (roleCount (words (now a)))) ⌝ }
     ensures { λ r. ⌜ r ≡ opensGood (roleCount (words (now (a .entry)))) (d .bits) (take c (drop at (words (now (a .entry))))) ⌝ }
@@ -122,7 +122,7 @@ fn opens_many(a: &[u8], at: usize, c: usize, d: RoleSet, all: RoleSet) -> bool
     (o.bits <= next) & !o.joined(later).shares(d) & (o.bits != 0)
 }
 
-// The same for few words: all are passed once for their order and their union, then held against each other.
+// `opens_good` for one word or more, quick for few: one pass for order and union, then each is held against those before it.
 fn opens_few(a: &[u8], at: usize, c: usize, d: RoleSet, all: RoleSet) -> bool
     requires { ⌜ Spans (now a) (at + c) × (0 < c) × (all .bits ≡ allBelow (roleCount (words (now a)))) ⌝ }
     ensures { λ r. ⌜ r ≡ opensGood (roleCount (words (now (a .entry)))) (d .bits) (take c (drop at (words (now (a .entry))))) ⌝ }
@@ -144,8 +144,8 @@ fn opens_few(a: &[u8], at: usize, c: usize, d: RoleSet, all: RoleSet) -> bool
     !later.shares(d) & (next != 0) & stand_apart(a, at, c)
 }
 
-// Whether they are good and each has a role outside `later`, the union of the later ones, so that it is not empty and part
-// of none of them.
+// Whether the c words are good open sets, each with a role outside `later`, the union of the later ones: so it is not empty
+// and part of none of them.
 fn opens_sure(a: &[u8], at: usize, c: usize, d: RoleSet, all: RoleSet) -> bool
     requires { ⌜ Spans (now a) (at + c) × (all .bits ≡ allBelow (roleCount (words (now a)))) ⌝ }
     ensures { λ r. ⌜ r ≡ opensSure (roleCount (words (now (a .entry)))) (d .bits) (take c (drop at (words (now (a .entry))))) ⌝ }

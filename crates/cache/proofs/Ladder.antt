@@ -11,6 +11,7 @@ use Rattle.meaning.specs.declared.Happening.the-variants.{Allow, Deny, Given, W
 use Rattle.meaning.specs.Events.{known}
 use Rattle.meaning.specs.Rows.{Row, blank, fits, contradicts, step, Settled, unchanged, forgotten, overflow, settle}
 use Rattle.meaning.proofs.Verdicts.{unlike}
+use Rattle.meaning.proofs.Walks.{or-true}
 use Rattle.area.specs.Layout.{mostRows}
 use Rattle.area.specs.State.{State, isBlank, rowFor, withRow}
 use Rattle.cache.specs.declared.Answer.{Answer}
@@ -21,10 +22,6 @@ pub gives : (o : Out) (r : Answer) (l : List ℕ) → o ≡ stays (numberOf r) l
 gives o r l e = record { answer = sym (ap (λ (x : Out). x .answer) e); area = sym (ap (λ (x : Out). x .area) e) }
 
 -- ---- whether a row that fits by itself has a place
-
-or-true : (b : Bool) → (b || true) ≡ true
-or-true true = refl
-or-true false = refl
 
 module _ (s : State) (p : ℕ) (v : Row) (f : fits v ≡ true) where
   pub fitsIn-over : isBlank (rowFor p (s .rows)) ≡ false → fitsIn s p v ≡ true

@@ -9,6 +9,7 @@ use lib.Pow.{pow-mono}
 use lib.ListN.{length, set}
 use Rattle.words.proofs.Laws.{Bytes}
 use Rattle.meaning.specs.declared.Happening.{Happening}
+use Rattle.roles.specs.Sets.{mostRoles}
 use Rattle.roles.proofs.Laws.{partOf-allBelow}
 use Rattle.meaning.specs.Events.{about, known}
 use Rattle.meaning.specs.Rows.{Row, blank, mostOpens, fits, settle}
@@ -97,11 +98,11 @@ settled-tidy e w r t g =
     stored⇒tidy mostOpens (r .row .opens) (settle e (rowOf w) .row .opens) (ap (λ (x : stored-row.Row). x .opens) (g .row))
     (fits-law (settle e (rowOf w) .row) .0 (settle-fits e (rowOf w) (fits-law (rowOf w) .1 few)))
 
--- a known event is known among all 64 roles
-pub known-64 : (l : List ℕ) → Sound l → (e : Happening) → T (known (stateOf l .roles) e) → T (known 64 e)
+-- a known event is known among all roles that there may be
+pub known-64 : (l : List ℕ) → Sound l → (e : Happening) → T (known (stateOf l .roles) e) → T (known mostRoles e)
 unfolding known
 known-64 l s e k =
     let n = stateOf l .roles in
     let below = partOf-allBelow n (about e) .0 k in
     let grows = pow-mono (good-state l (s .good) .most-roles) in
-    partOf-allBelow 64 (about e) .1 (omega (arith, below, grows))
+    partOf-allBelow mostRoles (about e) .1 (omega (arith, below, grows))

@@ -23,7 +23,7 @@ ghost use mathlib.Core.Path.{_≡_};
 ghost use mathlib.Core.Bool.{cond};
 ghost use Prim.Native.Nat.{_≤_};
 ghost use lib.Dec.{T};
-ghost use Rattle.roles.specs.Sets.{allBelow, partOf};
+ghost use Rattle.roles.specs.Sets.{mostRoles, allBelow, partOf};
 ghost use Rattle.meaning.specs.Events.{known};
 ghost use Rattle.meaning.specs.Rows.{blank, mostOpens, decide};
 ghost use Rattle.rows.specs.Stored.{Tidy, rowOf, storedRow};
@@ -73,7 +73,7 @@ pub fn number(r: Answer) -> u32
 
 // Whether all roles of s are below n.
 fn set_known(s: RoleSet, n: u64) -> bool
-    requires { ⌜ n ≤ 64 ⌝ }
+    requires { ⌜ n ≤ mostRoles ⌝ }
     ensures { λ b. ⌜ b ≡ partOf (s .bits) (allBelow n) ⌝ }
 {
     s.is_part_of(RoleSet::all_below(n))
@@ -81,7 +81,7 @@ fn set_known(s: RoleSet, n: u64) -> bool
 
 // A role is compared with n before its set is made.
 fn is_known(e: Happening, n: u64) -> bool
-    requires { ⌜ n ≤ 64 ⌝ }
+    requires { ⌜ n ≤ mostRoles ⌝ }
     ensures { λ b. ⌜ b ≡ known n e ⌝ }
 {
     match e {

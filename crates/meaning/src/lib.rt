@@ -4,7 +4,7 @@ use roles::RoleSet;
 // Permissions are 1 to this one.
 pub const LAST_PERMISSION: u64 = 4294967295;
 
-// What a row may hold.
+// A row has at most so many open sets.
 pub const MOST_OPENS: usize = 15;
 
 pub enum Happening {

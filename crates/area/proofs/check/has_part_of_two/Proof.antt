@@ -13,7 +13,7 @@ use Rattle.roles.specs.Sets.{partOf, joined}
 use Rattle.meaning.specs.Lists.{any}
 use Rattle.meaning.proofs.Walks.{any-hit, any-miss, any-end, or-true}
 use Rattle.area.specs.Parts.{firstPart}
-use Rattle.area.proofs.SearchLaws.{partOfEither, search-most, first-of-two, either-next, two-parts}
+use Rattle.area.proofs.SearchLaws.{partOfEither, search-most, part-of-joined, either-next, two-parts}
 use Rattle.area.proofs.check.has_part_of_two.Statement.{statement}
 use Rattle.area.proofs.check.has_part_of_two.Tie as tie
 
@@ -50,7 +50,7 @@ first-part-requires c κs =
     let a = s .args .a .now in
     let b = s .pre .0 .enough in
     let h = search-most (c .joined .result .bits) (words a) (s .args .at) (s .args .i) 0 (omega (arith, length-words a)) (omega arith)
-    (ap (partOf _) (c .joined .ensures) ∙ first-of-two (s .args .s .bits) (s .args .t .bits) (getD (words a) (s .args .at + s .args .i) 0) (s .pre .1)) in
+    (ap (partOf _) (c .joined .ensures) ∙ part-of-joined (s .args .s .bits) (s .args .t .bits) (getD (words a) (s .args .at + s .args .i) 0) (s .pre .1)) in
     spans-again (s .pre .0) refl (omega arith)
 
 loop-holds : tie.Need-loop-holds Inv-loop μ-loop
@@ -94,7 +94,7 @@ first-part-requires-2 c κs =
     let b = s .pre .0 .enough in
     let both = at .before .before .joined in
     let h = search-most (both .result .bits) (words a) (s .args .at) (s .args .i) (at .loop .k + 1) (omega (arith, length-words a)) (search needs)
-    (ap (partOf _) (both .ensures) ∙ first-of-two (s .args .s .bits) (s .args .t .bits) (getD (words a) (s .args .at + s .args .i) 0) (s .pre .1)) in
+    (ap (partOf _) (both .ensures) ∙ part-of-joined (s .args .s .bits) (s .args .t .bits) (getD (words a) (s .args .at + s .args .i) 0) (s .pre .1)) in
     spans-again (s .pre .0) refl (omega arith)
 
 loop-less : tie.Need-loop-less Inv-loop μ-loop

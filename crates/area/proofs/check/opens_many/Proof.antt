@@ -79,7 +79,7 @@ has-part-of-two-requires c κs =
     let o = c .before .before .before .before .before .before .before .get-word2 in
     let t = c .before .before .before .before .before .before .before .before .get-word in
     let both = two-words (words (s .args .a .now)) (s .args .at) (at .j) (o .result) (t .result) (search needs) (o .ensures) (t .ensures) in
-    (spans-again p refl (let h = p .enough in omega arith), both .0, both .1)
+    (spans-again p refl (let h = p .enough in omega arith), both .0)
 
 -- what the search says of the sets passed and of the others
 held : (c : tie.After-has-part-of-two Inv-loop μ-loop) → let s = c .before .before .before .before .before .before .before .before .before .before .before .before .before .args in let j = c .before .before .before .before .before .before .before .before .before .before .before .loop .j in
