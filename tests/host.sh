@@ -44,15 +44,25 @@ else
     [ -x "${runner[0]}" ] || stop "the kit has no emulator"
 fi
 
-# Builds the archive of a crate anew: one of older code would be tested as if it were this one.
-# One build at a time, and a copy of what it made: a second one would write what the first still reads.
-build_archive() {
-    local lock
-    exec {lock}<"$root/tests/host.sh" && flock "$lock"
-    (cd "$root" && "$rt" staticlib "$1") </dev/null >"$work/rt" 2>&1 || { cat "$work/rt" >&2; stop "no archive"; }
-    archive=$work/lib$1.a
-    cp "$root/target/staticlib/lib$1.a" "$archive"
+# Runs a command that builds in the folder target: one at a time, for tests run side by side.
+alone() {
+    local lock status
+    exec {lock}<"$root/tests/host.sh" && flock "$lock" || return
+    "$@"
+    status=$?
     exec {lock}<&-
+    return "$status"
+}
+
+# Builds the archive of a crate anew: one of older code would be tested as if it were this one.
+# A copy is kept, since the next build would write what this test still reads.
+build_archive() {
+    archive=$work/lib$1.a
+    alone make_archive "$1" </dev/null >"$work/rt" 2>&1 || { cat "$work/rt" >&2; stop "no archive"; }
+}
+
+make_archive() {
+    (cd "$root" && "$rt" staticlib "$1") && cp "$root/target/staticlib/lib$1.a" "$archive"
 }
 
 run() {
