@@ -4,9 +4,6 @@ pub mod Cells
 pub mod Held
 pub mod Rules
 pub mod Bytes
-pub mod OpensLaws
-pub mod SearchLaws
 pub mod CheckLaws
-pub mod PassLaws
 pub mod Full
 pub mod Theorems

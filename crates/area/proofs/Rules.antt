@@ -1,39 +1,25 @@
 -- The rules of a good area say that it holds a good state. Assumes nothing.
-use mathlib.Core.Path.{_≡_, refl, sym, ap, _∙_, subst, subst⁻¹}
+use mathlib.Core.Path.{_≡_, sym, ap, _∙_, subst, subst⁻¹}
 use mathlib.Core.Bool.{Bool, true, false, not, _&&_, _||_}
-use mathlib.Core.List.{List, [], _∷_}
-use mathlib.Core.Logic.{_↔_, _≢_, _⊎_, inl, inr, ⊎-elim}
-use Prim.Native.Nat.{ℕ, zero, suc, _+_, _*_, _^_, _≤_, _<_}
+use mathlib.Core.List.{List}
+use mathlib.Core.Logic.{_↔_}
+use Prim.Native.Nat.{ℕ, zero, suc, _+_, _*_, _≤_, _<_}
 use native.Mathlib.Decide.{ℕ-discrete}
 use native.Mathlib.Omega.{arith}
-use lib.Dec.{T, T-not, not-T, eqb, eqb→eq, ltb→lt, lt→ltb, leb→le, le→leb}
+use lib.Dec.{T, eqb, ltb→lt, lt→ltb, leb→le, le→leb}
 use lib.ListN.{length, getD, drop}
 use Rattle.words.specs.Words.{allZero}
-use Rattle.roles.specs.Sets.{shares, partOf, mostRoles}
+use Rattle.roles.specs.Sets.{allBelow, mostRoles}
 use Rattle.roles.proofs.Member.{T-and}
-use Rattle.roles.proofs.Laws.{partOf-le}
-use Rattle.meaning.specs.Lists.{Mem, Ascending}
-use Rattle.meaning.specs.Rows.{Good, mostOpens}
-use Rattle.meaning.proofs.ListLaws.{none-law}
+use Rattle.meaning.specs.Rows.{mostOpens}
 use Rattle.meaning.specs.Events.{lastPermission}
-use Rattle.area.specs.Layout.{mostRows, contentWords, bodyWords, areaWords, roleCount, rowsUsed, contents, bodies, permissionAt, countAt, deniedAt, placesAt, opensAt, permissionBefore, allOf, eachBelow, belowFirst, openRules, opensGood, rowRules, goodRowAt, areaRules, goodArea}
+use Rattle.opens.specs.Opens.{opensGood, placesGood}
+use Rattle.opens.proofs.OpenRules.{allOf-law, most-below, opensGood-law}
+use Rattle.area.specs.Layout.{mostRows, contentWords, bodyWords, areaWords, roleCount, rowsUsed, contents, bodies, permissionAt, countAt, deniedAt, placesAt, opensAt, permissionBefore, eachBelow, rowRules, goodRowAt, areaRules, goodArea}
 use Rattle.area.specs.State.{Entry, State, GoodRow, GoodRows, GoodState, pad, each, content, body, wordsOf, entryAt, entriesFrom, heldBy}
 use Rattle.area.proofs.RowLaws.{none, GoodEntry, row-good, rows-ascending}
 use Rattle.area.proofs.Cells.{pad-behind, length-each, length-entries}
 use Rattle.area.proofs.Held.{content-wide, body-wide, length-wordsOf, contents-is, bodies-is, roles-is, used-is, content-is, body-is, entry-is, held-words, opens-long, words-held}
-
--- ---- all rules of a list
-
-abbrev pub Hold : List Bool → Type 0
-Hold [] = Unit {0}
-Hold (b ∷ bs) = T b × Hold bs
-
-pub allOf-law : (bs : List Bool) → T (allOf bs) ↔ Hold bs
-allOf-law [] = ((λ h. tt), (λ h. tt))
-allOf-law (b ∷ bs) = (
-  (λ h. let p = T-and b (allOf bs) .0 h in (p .0, allOf-law bs .0 (p .1))),
-  λ p. T-and b (allOf bs) .1 (p .0, allOf-law bs .1 (p .1)),
-)
 
 pub eachBelow-law : (n : ℕ) (p : ℕ → Bool) → T (eachBelow n p) ↔ ((k : ℕ) → k < n → T (p k))
 eachBelow-law zero p = ((λ h k u. absurd (let z : ⊥ = omega arith in z)), (λ f. tt))
@@ -44,84 +30,6 @@ eachBelow-law (suc n) p = (
   ]),
   λ f. T-and (eachBelow n p) (p n) .1 (eachBelow-law n p .1 (λ k u. f k (omega arith)), f n (omega arith)),
 )
-
-pub nonzero : (x : ℕ) → T (not (eqb x 0)) ↔ (x ≢ 0)
-nonzero x = (
-  (λ h e. T-not (eqb x 0) h (subst⁻¹ (λ (y : ℕ). T (eqb y 0)) e tt)),
-  λ n. not-T (eqb x 0) (λ t. n (eqb→eq x 0 t)),
-)
-
--- ---- the open sets of a row
-
-module _ (n d : ℕ) where
-  ascending-first : (o : ℕ) (l : List ℕ) → T (belowFirst o l) → Ascending l → (y : ℕ) → Mem y l → o < y
-  ascending-first o [] h r y m = absurd m
-  ascending-first o (x ∷ l) h r y m = let b = ltb→lt o x h in ⊎-elim (λ e. omega arith) (λ k. let c = r .0 y k in omega arith) m
-
-  first-ascending : (o : ℕ) (l : List ℕ) → ((y : ℕ) → Mem y l → o < y) → T (belowFirst o l)
-  first-ascending o [] f = tt
-  first-ascending o (x ∷ l) f = lt→ltb o x (f x (inl refl))
-
-  pub opensGood-law : (l : List ℕ) → d < 2 ^ n → T (opensGood n d l) ↔ Good n (record { denied = d; opens = l })
-  unfolding opensGood
-  opensGood-law [] b = (
-    (λ h. record { denied-below = b; below = λ o m. absurd m; nonempty = λ o m. absurd m; apart-from-denied = λ o m. absurd m; ascending = tt; no-part = λ o p m. absurd m }),
-    λ g. tt,
-  )
-  opensGood-law (o ∷ l) b = (
-    (λ h.
-        let p = T-and (opensGood n d l) (allOf (openRules n d o l)) .0 h in
-        let g = opensGood-law l b .0 (p .0) in
-        let r = allOf-law (openRules n d o l) .0 (p .1) in
-        let above = ascending-first o l (r .1 .1 .1 .0) (g .ascending) in
-        let alone = none-law (partOf o) l .0 (r .1 .1 .1 .1 .0) in
-        record {
-          denied-below = b;
-          below = λ x. ⊎-elim (λ e. subst⁻¹ (λ (z : ℕ). z < 2 ^ n) e (ltb→lt o (2 ^ n) (r .1 .0))) (g .below x);
-          nonempty = λ x. ⊎-elim (λ e. subst⁻¹ (λ (z : ℕ). z ≢ 0) e (nonzero o .0 (r .0))) (g .nonempty x);
-          apart-from-denied = λ x. ⊎-elim (λ e. subst⁻¹ (λ (z : ℕ). ¬ (T (shares z d))) e (T-not (shares o d) (r .1 .1 .0))) (g .apart-from-denied x);
-          ascending = (above, g .ascending);
-          no-part = λ x y mx my t. ⊎-elim
-              (λ ex. ⊎-elim
-              (λ ey. ex ∙ sym ey)
-              (λ ky. absurd (T-not (partOf o y) (alone y ky) (subst (λ (z : ℕ). T (partOf z y)) ex t)))
-              my)
-              (λ kx. ⊎-elim
-              (λ ey. let le = partOf-le x y t in let lt = above x kx in absurd (let z : ⊥ = omega arith in z))
-              (λ ky. g .no-part x y kx ky t)
-              my)
-              mx;
-        }),
-    λ g.
-        let rest : Good n (record { denied = d; opens = l }) = record {
-          denied-below = b;
-          below = λ x m. g .below x (inr m);
-          nonempty = λ x m. g .nonempty x (inr m);
-          apart-from-denied = λ x m. g .apart-from-denied x (inr m);
-          ascending = g .ascending .1;
-          no-part = λ x y mx my. g .no-part x y (inr mx) (inr my);
-        } in
-        T-and (opensGood n d l) (allOf (openRules n d o l)) .1 (
-          opensGood-law l b .1 rest,
-          allOf-law (openRules n d o l) .1 (
-            nonzero o .1 (g .nonempty o (inl refl)),
-            (
-              lt→ltb o (2 ^ n) (g .below o (inl refl)),
-              (
-                not-T (shares o d) (g .apart-from-denied o (inl refl)),
-                (
-                  first-ascending o l (g .ascending .0),
-                  (
-                    none-law (partOf o) l .1 (λ y m. not-T (partOf o y) (λ t.
-                        let e = g .no-part o y (inl refl) (inr m) t in let lt = g .ascending .0 y m in let z : ⊥ = omega arith in z)),
-                    tt,
-                  ),
-                ),
-              ),
-            ),
-          ),
-        ),
-  )
 
 -- ---- a row
 
@@ -143,40 +51,48 @@ pub record RowFacts (ws : List ℕ) (i : ℕ) : Type 0 where
   pub behind : T (allZero (drop (countAt ws i) (placesAt ws i)))
 
 module _ (ws : List ℕ) (long : length ws ≡ areaWords) (used : rowsUsed ws ≤ mostRows) (i : ℕ) (h : i < rowsUsed ws) where
+  abbrev all : ℕ
+  all = allBelow (roleCount ws)
+
+  places-law : T (placesGood all (deniedAt ws i) (countAt ws i) (placesAt ws i)) ↔ (T (opensGood all (deniedAt ws i) (opensAt ws i)) × T (allZero (drop (countAt ws i) (placesAt ws i))))
+  unfolding placesGood
+  places-law = T-and (opensGood all (deniedAt ws i) (opensAt ws i)) (allZero (drop (countAt ws i) (placesAt ws i)))
+
   pub row-law : T (goodRowAt ws i) ↔ RowFacts ws i
   unfolding goodRowAt
   row-law = (
     (λ t.
         let r = allOf-law (rowRules ws i) .0 t in
-        let few = leb→le (countAt ws i) mostOpens (r .0) in
+        let few = leb→le (countAt ws i) mostOpens (r .1 .1 .0) in
         let len = opens-long ws long used i h few in
-        let d = ltb→lt (deniedAt ws i) (2 ^ roleCount ws) (r .1 .1 .1 .0) in
+        let d = most-below (roleCount ws) (deniedAt ws i) .0 (r .1 .1 .1 .0) in
+        let places = places-law .0 (r .1 .1 .1 .1 .1 .0) in
         record {
           few = few;
           above = ltb→lt (permissionBefore ws i) (permissionAt ws i) (r .1 .0);
-          valid = leb→le (permissionAt ws i) lastPermission (r .1 .1 .0);
+          valid = leb→le (permissionAt ws i) lastPermission (r .0);
           row = record {
-            good = opensGood-law (roleCount ws) (deniedAt ws i) (opensAt ws i) d .0 (r .1 .1 .1 .1 .1 .0);
+            good = opensGood-law (roleCount ws) (deniedAt ws i) (opensAt ws i) d .0 (places .0);
             says = says-law (deniedAt ws i) (countAt ws i) (length (opensAt ws i)) len .0 (r .1 .1 .1 .1 .0);
             few = omega arith;
           };
-          behind = r .1 .1 .1 .1 .1 .1 .0;
+          behind = places .1;
         }),
     λ f.
         let g = f .row in
         let d = g .good .denied-below in
         let len = opens-long ws long used i h (f .few) in
         allOf-law (rowRules ws i) .1 (
-          le→leb (countAt ws i) mostOpens (f .few),
+          le→leb (permissionAt ws i) lastPermission (f .valid),
           (
             lt→ltb (permissionBefore ws i) (permissionAt ws i) (f .above),
             (
-              le→leb (permissionAt ws i) lastPermission (f .valid),
+              le→leb (countAt ws i) mostOpens (f .few),
               (
-                lt→ltb (deniedAt ws i) (2 ^ roleCount ws) d,
+                most-below (roleCount ws) (deniedAt ws i) .1 d,
                 (
                   says-law (deniedAt ws i) (countAt ws i) (length (opensAt ws i)) len .1 (g .says),
-                  (opensGood-law (roleCount ws) (deniedAt ws i) (opensAt ws i) d .1 (g .good), (f .behind, tt)),
+                  (places-law .1 (opensGood-law (roleCount ws) (deniedAt ws i) (opensAt ws i) d .1 (g .good), f .behind), tt),
                 ),
               ),
             ),

@@ -13,23 +13,25 @@
 --                 | ..         | ..                                      |
 --     word 2306   +------------+-----------------------------------------+    everything unused is zero
 --
+--     mostRows .. areaBytes             the numbers
 --     roleCount, rowsUsed               the header's words
+--     contents, bodies                  the two parts behind it
 --     contentAt, bodyAt                 contents entry i, body i
 --     permissionAt, countAt             the two words of an entry
 --     deniedAt, placesAt, opensAt       the denied set, the 15 places, the open sets in the first of them
---     openRules, rowRules, areaRules    the rules for an open set, a row, the area, over the area's words
---     opensGood, goodRowAt, goodArea    all of them hold
+--     rowRules, areaRules               the rules for a row, the area, over the area's words
+--     goodRowAt, goodArea               all of them hold
 --     goodBytes                         the bytes are a good area
 use mathlib.Core.Bool.{Bool, true, not, _&&_, _||_}
 use mathlib.Core.List.{List, [], _∷_}
-use Prim.Native.Nat.{ℕ, zero, suc, _+_, _*_, _^_}
+use Prim.Native.Nat.{ℕ, zero, suc, _+_, _*_}
 use lib.Dec.{eqb, ltb, leb}
 use lib.ListN.{length, getD, take, drop}
 use Rattle.words.specs.Words.{words, allZero}
-use Rattle.roles.specs.Sets.{mostRoles, shares, partOf}
+use Rattle.roles.specs.Sets.{mostRoles, allBelow}
 use Rattle.meaning.specs.Events.{lastPermission}
-use Rattle.meaning.specs.Lists.{any}
 use Rattle.meaning.specs.Rows.{mostOpens}
+use Rattle.opens.specs.Opens.{allOf, placesGood}
 
 -- ---- the numbers
 
@@ -96,41 +98,21 @@ permissionBefore ws (suc i) = permissionAt ws i
 
 -- ---- the rules
 
--- all of the rules hold
-abbrev pub allOf : List Bool → Bool
-allOf [] = true
-allOf (b ∷ bs) = b && allOf bs
-
 -- p holds of each number below n
 abbrev pub eachBelow : ℕ → (ℕ → Bool) → Bool
 eachBelow zero p = true
 eachBelow (suc n) p = eachBelow n p && p n
 
--- o is below the first of the list
-abbrev pub belowFirst : ℕ → List ℕ → Bool
-belowFirst o [] = true
-belowFirst o (p ∷ l) = ltb o p
-
--- an open set o before those of l: nonempty, below n, sharing no role with the denied set d, below the next, part of none
--- (a greater set is part of no smaller one)
-abbrev pub openRules : ℕ → ℕ → ℕ → List ℕ → List Bool
-openRules n d o l = not (eqb o 0) ∷ ltb o (2 ^ n) ∷ not (shares o d) ∷ belowFirst o l ∷ not (any (partOf o) l) ∷ []
-
-unfoldable pub opensGood : ℕ → ℕ → List ℕ → Bool
-opensGood n d [] = true
-opensGood n d (o ∷ l) = opensGood n d l && allOf (openRules n d o l)
-
--- row i: at most 15 open sets; a permission above the one before, and valid; a denied set below n; something denied or
--- open; good open sets; nothing behind them
+-- row i: a valid permission, above the one before; at most 15 open sets; a denied set of roles below n; something denied or
+-- open; good open sets, and nothing behind them
 abbrev pub rowRules : List ℕ → ℕ → List Bool
 rowRules ws i =
-    leb (countAt ws i) mostOpens
+    leb (permissionAt ws i) lastPermission
     ∷ ltb (permissionBefore ws i) (permissionAt ws i)
-    ∷ leb (permissionAt ws i) lastPermission
-    ∷ ltb (deniedAt ws i) (2 ^ roleCount ws)
+    ∷ leb (countAt ws i) mostOpens
+    ∷ leb (deniedAt ws i) (allBelow (roleCount ws))
     ∷ (not (eqb (deniedAt ws i) 0) || not (eqb (countAt ws i) 0))
-    ∷ opensGood (roleCount ws) (deniedAt ws i) (opensAt ws i)
-    ∷ allZero (drop (countAt ws i) (placesAt ws i))
+    ∷ placesGood (allBelow (roleCount ws)) (deniedAt ws i) (countAt ws i) (placesAt ws i)
     ∷ []
 
 unfoldable pub goodRowAt : List ℕ → ℕ → Bool

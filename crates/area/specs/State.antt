@@ -3,6 +3,7 @@
 --     GoodState            the rules of a good area, as rules of what it holds
 --     areaOf s             the bytes of a state: contents first, then bodies, zeros behind them
 --     stateOf l            the state that the bytes hold
+--     wordsOf, heldBy      the same two between a state and words
 --     rowFor p es          the row of a permission, blank where it has none
 --     put p w es           the rows with w as the row of p: a blank row is no row
 --     place p es           how many rows of smaller permissions come first
@@ -14,8 +15,8 @@ use lib.Dec.{T, eqb, ltb}
 use lib.ListN.{length, take, drop, replicate}
 use Rattle.words.specs.Words.{words, bytesOf}
 use Rattle.roles.specs.Sets.{mostRoles}
-use Rattle.meaning.specs.Rows.{Row, blank, Good, mostOpens}
 use Rattle.meaning.specs.Events.{lastPermission}
+use Rattle.meaning.specs.Rows.{Row, blank, Good, mostOpens}
 use Rattle.area.specs.Layout.{mostRows, contentWords, bodyWords, roleCount, rowsUsed, permissionAt, deniedAt, opensAt}
 
 pub record Entry : Type 0 where

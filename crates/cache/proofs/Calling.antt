@@ -23,9 +23,9 @@ use Rattle.area.specs.State.{rowFor, heldBy, stateOf, areaOf}
 use Rattle.area.proofs.RowLaws.{rowFor-few}
 use Rattle.area.proofs.Bytes.{good-state}
 use Rattle.table.specs.Table.{rowsIn, Sound}
-use Rattle.cache.specs.Calls.{stays, holds, valid, openOf, onArea, decideOf}
-use Rattle.cache.specs.Answers.{Gives}
-use Rattle.cache.specs.declared.Answer.the-variants.{Done, BadArea, BadRoleCount}
+use Rattle.calls.specs.Calls.{stays, holds, valid, openOf, onArea, decideOf}
+use Rattle.calls.specs.Answers.{Gives}
+use Rattle.calls.specs.declared.Answer.the-variants.{Recorded, BadArea, BadRoleCount}
 use Rattle.cache.proofs.Ladder.{gives}
 
 -- ---- by value
@@ -119,5 +119,5 @@ module _ (l : List ℕ) (n : ℕ) where
   pub open-2 : length l ≡ areaBytes → (ltb n 1 || ltb mostRoles n) ≡ true → Gives (openOf l n) BadRoleCount l
   open-2 h k = gives (openOf l n) BadRoleCount l (opens true false (eq-eqb (length l) areaBytes h) (count-is n true k))
 
-  pub open-go : (m : List ℕ) → length l ≡ areaBytes → (ltb n 1 || ltb mostRoles n) ≡ false → m ≡ areaOf (record { roles = n; rows = [] }) → Gives (openOf l n) Done m
-  open-go m h k e = gives (openOf l n) Done m (opens true true (eq-eqb (length l) areaBytes h) (count-is n false k) ∙ ap (stays 0) (sym e))
+  pub open-go : (m : List ℕ) → length l ≡ areaBytes → (ltb n 1 || ltb mostRoles n) ≡ false → m ≡ areaOf (record { roles = n; rows = [] }) → Gives (openOf l n) Recorded m
+  open-go m h k e = gives (openOf l n) Recorded m (opens true true (eq-eqb (length l) areaBytes h) (count-is n false k) ∙ ap (stays 0) (sym e))

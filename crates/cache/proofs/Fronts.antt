@@ -11,10 +11,10 @@ use Rattle.meaning.specs.declared.Happening.the-variants.{Allow, Deny, Given, W
 use Rattle.meaning.specs.Rows.{blank}
 use Rattle.area.specs.Layout.{goodBytes}
 use Rattle.area.specs.State.{withRow, stateOf, areaOf}
-use Rattle.cache.specs.declared.Answer.{Answer}
-use Rattle.cache.specs.declared.Answer.the-variants.{Done, BadArea, NoPermission, BadNumber}
-use Rattle.cache.specs.Calls.{Out, stays, valid, eventOf, replied, updated, onArea, replyOf, updateOf, forgetOf}
-use Rattle.cache.specs.Answers.{Gives}
+use Rattle.calls.specs.declared.Answer.{Answer}
+use Rattle.calls.specs.declared.Answer.the-variants.{Recorded, BadArea, NoPermission, BadNumber}
+use Rattle.calls.specs.Calls.{Out, stays, valid, eventOf, replied, updated, onArea, replyOf, updateOf, forgetOf}
+use Rattle.calls.specs.Answers.{Gives}
 use Rattle.cache.proofs.Ladder.{gives}
 
 -- ---- the refusals that all share
@@ -88,6 +88,6 @@ module _ (l : List ℕ) (p : ℕ) where
   unfolding forgetOf
   forget-3 h k = gives (forgetOf l p) NoPermission l (on-none l p _ h k)
 
-  pub forget-go : (m : List ℕ) → goodBytes l ≡ true → valid p ≡ true → m ≡ areaOf (withRow (stateOf l) p blank) → Gives (forgetOf l p) Done m
+  pub forget-go : (m : List ℕ) → goodBytes l ≡ true → valid p ≡ true → m ≡ areaOf (withRow (stateOf l) p blank) → Gives (forgetOf l p) Recorded m
   unfolding forgetOf
-  forget-go m h k e = gives (forgetOf l p) Done m (on-good l p _ h k ∙ ap (stays 0) (sym e))
+  forget-go m h k e = gives (forgetOf l p) Recorded m (on-good l p _ h k ∙ ap (stays 0) (sym e))

@@ -14,9 +14,9 @@ use Rattle.meaning.proofs.Verdicts.{unlike}
 use Rattle.meaning.proofs.Walks.{or-true}
 use Rattle.area.specs.Layout.{mostRows}
 use Rattle.area.specs.State.{State, isBlank, rowFor, withRow}
-use Rattle.cache.specs.declared.Answer.{Answer}
-use Rattle.cache.specs.Calls.{Out, stays, holds, isReply, fitsIn, eventOn}
-use Rattle.cache.specs.Answers.{numberOf, Gives}
+use Rattle.calls.specs.declared.Answer.{Answer}
+use Rattle.calls.specs.Calls.{Out, stays, holds, isReply, fitsIn, eventOn}
+use Rattle.calls.specs.Answers.{numberOf, Gives}
 
 pub gives : (o : Out) (r : Answer) (l : List ℕ) → o ≡ stays (numberOf r) l → Gives o r l
 gives o r l e = record { answer = sym (ap (λ (x : Out). x .answer) e); area = sym (ap (λ (x : Out). x .area) e) }

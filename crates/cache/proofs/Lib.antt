@@ -1,15 +1,6 @@
--- The laws of the calls and of histories, and the demands, gathered in `Demands`.
-pub mod Outcomes
+-- From what the code reads and writes to what the calls' definitions say.
 pub mod Places
 pub mod Writes
 pub mod Ladder
 mod Calling
 mod Fronts
-pub mod Invariant
-pub mod Grounds
-pub mod Streams
-mod Decisions
-mod Areas
-mod AreaReadings
-mod Numbers
-pub mod Demands

@@ -2,6 +2,7 @@
 use area::AREA_BYTES;
 use area::MOST_ROWS;
 use area::check::check;
+use calls::Answer;
 use meaning::Event;
 use meaning::Happening;
 use roles::MOST_ROLES;
@@ -30,44 +31,9 @@ ghost use Rattle.rows.specs.Stored.{Tidy, rowOf, storedRow};
 ghost use Rattle.area.specs.State.{isBlank, rowFor, withRow, stateOf, areaOf};
 ghost use Rattle.table.specs.Table.{rowsIn, Sound, foundFor};
 ghost use Rattle.table.specs.declared.Found.the-variants.{At, Vacant};
-ghost use Rattle.cache.specs.Calls.{isReply, eventOf, openOf, replyOf, updateOf, decideOf, forgetOf};
-ghost use Rattle.cache.specs.Answers.{numberOf, Gives, Fresh};
-
-// What a call answers; `numberOf` has the numbers.
-pub enum Answer {
-    Done,
-    BadArea,
-    BadRoleCount,
-    NoPermission,
-    UnknownRole,
-    BadNumber,
-    Contradiction,
-    Full,
-    Forgotten,
-    Deny,
-    Allow,
-    Undecided,
-}
-
-// Document 01's number of an answer.
-pub fn number(r: Answer) -> u32
-    ensures { λ n. ⌜ n ≡ numberOf r ⌝ }
-{
-    match r {
-        Answer::Done => 0,
-        Answer::BadArea => 1,
-        Answer::BadRoleCount => 2,
-        Answer::NoPermission => 3,
-        Answer::UnknownRole => 4,
-        Answer::BadNumber => 5,
-        Answer::Contradiction => 6,
-        Answer::Full => 7,
-        Answer::Forgotten => 8,
-        Answer::Deny => 10,
-        Answer::Allow => 11,
-        Answer::Undecided => 12,
-    }
-}
+ghost use Rattle.calls.specs.Calls.{isReply, eventOf, openOf, replyOf, updateOf, decideOf, forgetOf};
+ghost use Rattle.calls.specs.Answers.{numberOf, Gives};
+ghost use Rattle.cache.specs.Fresh.{Fresh};
 
 // ---- what the numbers of a call say
 
@@ -79,7 +45,7 @@ fn set_known(s: RoleSet, n: u64) -> bool
     s.is_part_of(RoleSet::all_below(n))
 }
 
-// A role is compared with n before its set is made.
+// A role is compared as a number: the set of a role of 64 or more is empty, and would count as known.
 fn is_known(e: Happening, n: u64) -> bool
     requires { ⌜ n ≤ mostRoles ⌝ }
     ensures { λ b. ⌜ b ≡ known n e ⌝ }
@@ -173,7 +139,7 @@ fn enter_over(a: &mut [u8], i: usize, p: u32, e: Happening) -> Answer
         }
         rows::Answer::Recorded => {
             put_over(a, i, p, w);
-            Answer::Done
+            Answer::Recorded
         }
     }
 }
@@ -196,13 +162,13 @@ fn put_new(a: &mut [u8], i: usize, p: u32, e: Happening, w: Row) -> Answer
     ensures { λ r. ⌜ Gives (eventOf (now (a .entry)) p e) r (now (a .exit)) ⌝ }
 {
     if is_blank(w) {
-        return Answer::Done;
+        return Answer::Recorded;
     }
     if rows_used(a) == MOST_ROWS {
         return no_room(e);
     }
     insert_at(a, i, p, w);
-    Answer::Done
+    Answer::Recorded
 }
 
 // An event about a permission without a row: where it is not recorded there is nothing to change.
@@ -322,7 +288,7 @@ pub fn forget(a: &mut [u8], p: u32) -> Answer
         return Answer::NoPermission;
     }
     forget_row(a, p);
-    Answer::Done
+    Answer::Recorded
 }
 
 pub fn open(a: &mut [u8], n: u64) -> Answer
@@ -335,5 +301,5 @@ pub fn open(a: &mut [u8], n: u64) -> Answer
         return Answer::BadRoleCount;
     }
     clear_all(a, n);
-    Answer::Done
+    Answer::Recorded
 }

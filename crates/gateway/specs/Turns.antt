@@ -10,7 +10,7 @@ use mathlib.Core.List.{List, [], _∷_}
 use Prim.Native.Nat.{ℕ, _+_, _-_, _≤_}
 use lib.ListN.{length, take, drop}
 use Rattle.text.specs.Ascii.{lf}
-use Rattle.lines.specs.Split.{isNone, heldBy}
+use Rattle.split.specs.Split.{isNone, heldBy}
 use Rattle.lines.specs.Run.{Advanced}
 use Rattle.lines.specs.declared.Progress.{Progress}
 use Rattle.gateway.specs.declared.Flow.{Flow}

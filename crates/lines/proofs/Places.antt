@@ -22,16 +22,17 @@ use Rattle.walker.specs.declared.Handed.{Handed}
 use Rattle.walker.proofs.WalkLaws.{walked-good, walked-few}
 use Rattle.text.specs.Write.{Wrote}
 use Rattle.requests.specs.declared.Request.{Request}
-use Rattle.lines.specs.Split as split
-use Rattle.lines.specs.Split.{heldAll, said, beforeLf, heldBy}
-use Rattle.lines.specs.Written.{answerText, rowText, after}
-use Rattle.lines.specs.Answers.{Answers}
+use Rattle.split.specs.Split as split
+use Rattle.split.specs.Split.{heldAll, said, beforeLf, heldBy}
+use Rattle.split.specs.declared.Splitter.{Splitter}
+use Rattle.split.proofs.SplitLaws.{before-most}
+use Rattle.answers.specs.Texts.{answerText, rowText}
+use Rattle.answers.specs.Answers.{Answers}
+use Rattle.answers.specs.declared.Answered.{Answered}
+use Rattle.answers.proofs.Texts.{length-row}
+use Rattle.lines.specs.Written.{after}
 use Rattle.lines.specs.Run.{rowShown, shownText, asked, lineRead, lineText, mostText, runAt, settledRow, placed, Comes, Shown}
 use Rattle.lines.specs.declared.Progress.{Progress}
-use Rattle.lines.specs.declared.split.Splitter.{Splitter}
-use Rattle.lines.specs.declared.answer.Answered.{Answered}
-use Rattle.lines.proofs.SplitLaws.{before-most}
-use Rattle.lines.proofs.Texts.{length-row}
 
 -- ---- a bad area has no rows
 

@@ -9,11 +9,11 @@ use lib.Dec.{eqb}
 use lib.ListN.{length}
 use Rattle.area.specs.Layout.{mostRows}
 use Rattle.text.specs.Ascii.{lf}
-use Rattle.lines.specs.Split.{Held, none, isNone, linesFrom, joined}
+use Rattle.split.specs.Split.{Held, none, isNone, linesFrom, joined}
 use Rattle.lines.specs.Written.{written, programWrites}
 use Rattle.lines.specs.Run.{Place, showing}
 use Rattle.lines.specs.Program.{start, idle, fedWith, Runs, writes, reads, closes, ends, ProgramWrites}
-use Rattle.lines.proofs.SplitLaws.{none-only, lines-closed}
+use Rattle.split.proofs.SplitLaws.{none-only, lines-closed}
 use Rattle.lines.proofs.Steps.{both}
 use Rattle.lines.proofs.Turns.{stillTo, lines-only, advances-still}
 

@@ -9,7 +9,7 @@ use lib.Dec.{eqb, ltb}
 use lib.ListN.{length, length-drop}
 use lib.Seq.{sets}
 use Rattle.text.specs.Ascii.{lf}
-use Rattle.lines.specs.Split.{Held, none, isNone, heldAll, beforeLf, joined}
+use Rattle.split.specs.Split.{Held, none, isNone, heldAll, beforeLf, joined}
 use Rattle.lines.specs.Written.{programWrites}
 use Rattle.lines.specs.Run.{Place, showing, rowShown, lineRead, mostText, turned, turnText, goesOn, Advances, stops, turns}
 use Rattle.lines.specs.Program.{start, idle, fedWith, Runs, writes, reads, closes, ends, InRoom, Partly, so-far, within, wrote, read, closed, Prefix, ProgramRuns, AdvancedOne}

@@ -15,9 +15,8 @@ use Rattle.text.specs.Write.{Wrote}
 use Rattle.text.proofs.WriteLaws.{wrote-then, wrote-length}
 use Rattle.requests.specs.declared.Request.{Request}
 use Rattle.requests.specs.declared.Request.the-variants.{Open, Told, Decide, Forget, Show, Unreadable}
-use Rattle.lines.specs.Split.{beforeLf}
-use Rattle.lines.specs.Written.{answerOf}
-use Rattle.lines.specs.Answers.{firstShown}
+use Rattle.split.specs.Split.{beforeLf}
+use Rattle.answers.specs.Answers.{answerOf, firstShown}
 use Rattle.lines.specs.Run.{Place, placeOf, showing, rowThere, rowShown, shownText, lineEnds, asked, answered, kept, lineRead, lineText, mostText, turned, turnText, goesOn, Advances, stops, turns, runAt, settledRow, placed, Ready, Comes, Shown, Advanced}
 use Rattle.lines.specs.declared.Run.{Run}
 use Rattle.lines.specs.declared.Progress.{Progress}

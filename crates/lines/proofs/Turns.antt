@@ -15,11 +15,12 @@ use Rattle.walker.specs.Walk.{walked, firstRow}
 use Rattle.walker.proofs.WalkLaws.{walked-few, walked-bad, first-good, first-bad}
 use Rattle.requests.specs.declared.Request.{Request}
 use Rattle.requests.specs.declared.Request.the-variants.{Open, Told, Decide, Forget, Show, Unreadable}
-use Rattle.lines.specs.Split.{none, heldAll, linesFrom, beforeLf}
-use Rattle.lines.specs.Written.{answerOf, shown, answerText, rowText, rowsText, after, lineWritten, written}
-use Rattle.lines.specs.Answers.{firstShown}
+use Rattle.split.specs.Split.{none, heldAll, linesFrom, beforeLf}
+use Rattle.answers.specs.Answers.{answerOf, firstShown}
+use Rattle.answers.specs.Texts.{answerText, rowText}
+use Rattle.lines.specs.Written.{shown, rowsText, after, lineWritten, written}
 use Rattle.lines.specs.Run.{Place, showing, rowThere, rowShown, shownText, lineEnds, asked, answered, kept, lineRead, lineText, turned, turnText, goesOn, Advances, stops, turns}
-use Rattle.lines.proofs.SplitLaws.{lines-ended, lines-open}
+use Rattle.split.proofs.SplitLaws.{lines-ended, lines-open}
 
 -- what is still to be written from m on, if `more` comes in behind its input
 unfoldable pub stillTo : Place → List ℕ → List ℕ

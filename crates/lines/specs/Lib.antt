@@ -1,6 +1,4 @@
 -- What the contracts of `lines` cite, and what the line program writes for an input.
-pub mod Split
 pub mod Written
-pub mod Answers
 pub mod Run
 pub mod Program

@@ -19,7 +19,7 @@ use lib.Dec.{eqb}
 use lib.ListN.{length, replicate}
 use Rattle.area.specs.Layout.{mostRows, areaBytes}
 use Rattle.text.specs.Ascii.{lf}
-use Rattle.lines.specs.Split.{none, isNone, joined, heldBy}
+use Rattle.split.specs.Split.{none, isNone, joined, heldBy}
 use Rattle.lines.specs.Written.{programWrites}
 use Rattle.lines.specs.Run.{Place, showing, mostText, Advances, Advanced}
 use Rattle.lines.specs.declared.Run.{Run}

@@ -25,9 +25,10 @@ use Rattle.walker.specs.Walk.{walked, Walkable}
 use Rattle.table.specs.Table.{nth}
 use Rattle.text.specs.Write.{Wrote}
 use Rattle.requests.specs.declared.Request.{Request}
-use Rattle.lines.specs.Split.{Held, none, heldAll, said, beforeLf, heldBy}
-use Rattle.lines.specs.Written.{answerOf, answerText, rowText, after}
-use Rattle.lines.specs.Answers.{firstShown}
+use Rattle.split.specs.Split.{Held, none, heldAll, said, beforeLf, heldBy}
+use Rattle.answers.specs.Answers.{answerOf, firstShown}
+use Rattle.answers.specs.Texts.{answerText, rowText}
+use Rattle.lines.specs.Written.{after}
 use Rattle.lines.specs.declared.Run.{Run}
 use Rattle.lines.specs.declared.Progress.{Progress}
 
@@ -46,7 +47,6 @@ placeOf r l bs = record { held = heldBy (r .line); number = r .number; row = r .
 abbrev pub showing : Place → Bool
 showing m = ltb (m .row) mostRows
 
--- the row of that number is there
 abbrev pub rowThere : Place → Bool
 rowThere m = ltb (m .row) (length (walked (m .area)))
 
@@ -61,11 +61,9 @@ shownText m = cond (rowThere m) (rowText (nth (m .row) (walked (m .area)))) []
 
 -- ---- a line read
 
--- the line ends in the input
 abbrev pub lineEnds : Place → Bool
 lineEnds m = ltb (beforeLf (m .input)) (length (m .input))
 
--- the request that it says, where it does
 abbrev pub asked : Place → Request
 asked m = said (heldAll (m .held) (take (beforeLf (m .input)) (m .input)))
 
@@ -101,10 +99,11 @@ pub data Advances : ℕ → Place → Place → List ℕ → Type 0 where
 
 -- ---- what the code's functions promise
 
--- the run r at another row; where there are rows to be shown, the area is good
+-- the run r at another row
 abbrev pub runAt : Run → ℕ → Run
 runAt r i = record { line = r .line; number = r .number; row = i }
 
+-- a bad area has no row to be shown
 abbrev pub settledRow : List ℕ → ℕ → ℕ
 settledRow l i = cond (ltb i mostRows) (cond (goodBytes l) i mostRows) i
 

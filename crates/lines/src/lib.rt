@@ -1,17 +1,13 @@
 // The line program, from a piece of its input to the bytes written for it.
-pub mod answer;
-pub mod split;
-pub mod write;
-
-use answer::answer;
+use answers::answer;
+use answers::write::write_answer;
+use answers::write::write_row;
 use area::MOST_ROWS;
 use area::check::check;
 use split::Splitter;
 use split::asked;
 use split::line_end;
 use walker::row_of_walk;
-use write::write_answer;
-use write::write_row;
 ghost use mathlib.Core.Path.{_≡_};
 ghost use mathlib.Core.Bool.{_&&_, _||_};
 ghost use mathlib.Core.List.{[]};

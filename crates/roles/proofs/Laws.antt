@@ -95,6 +95,9 @@ partOf-allBelow n s = (
 pub shares-at : (s t r : ℕ) → In s r → In t r → T (shares s t)
 shares-at s t r i j = shares-law s t .1 (r, i, j)
 
+pub shares-sym : (s t : ℕ) → T (shares s t) → T (shares t s)
+shares-sym s t h = let p = shares-law s t .0 h in shares-at t s (p .0) (p .2) (p .1)
+
 pub shares-empty : (h : ℕ) → ¬ (T (shares h 0))
 shares-empty h k = let p = shares-law h 0 .0 k in in-empty (p .0) (p .2)
 

@@ -2,7 +2,7 @@
 use mathlib.Core.Path.{_≡_}
 use mathlib.Core.List.{List}
 use Prim.Native.Nat.{ℕ}
-use Rattle.cache.specs.Calls.{Out}
+use Rattle.calls.specs.Calls.{Out}
 
 pub record Returns (o : Out) (n : ℕ) (l : List ℕ) : Type 0 where
   pub answer : n ≡ o .answer

@@ -1,7 +1,7 @@
 // What C calls: the calls of `cache`, with the answers as numbers. `include/wickthrush.h` declares them.
-use cache::number;
+use calls::number;
 ghost use mathlib.Core.Path.{_≡_};
-ghost use Rattle.cache.specs.Calls.{openOf, replyOf, updateOf, decideOf, forgetOf};
+ghost use Rattle.calls.specs.Calls.{openOf, replyOf, updateOf, decideOf, forgetOf};
 ghost use Rattle.wickthrush.specs.Numbers.{Returns};
 
 #[no_mangle]

@@ -2,7 +2,7 @@
 use mathlib.Core.Path.{_≡_, refl, sym, ap, ap₂, _∙_}
 use mathlib.Core.Bool.{Bool, true, false, _&&_, and-true}
 use mathlib.Core.List.{List, [], _∷_, _++_}
-use Prim.Native.Nat.{ℕ, zero, suc, _+_, _≤_, _<_}
+use Prim.Native.Nat.{ℕ, zero, suc, _+_, _-_, _≤_, _<_}
 use native.Mathlib.Numerals.{add-one}
 use native.Mathlib.Nat.{add-zero}
 use native.Mathlib.Decide.{ℕ-discrete}
@@ -11,7 +11,7 @@ use borrow.Author.Tests.{eq-eqb, ne-eqb}
 use lib.Bits.{bitOr, or-add-and, and-le-l, and-le-r}
 use lib.Dec.{eqb}
 use lib.ListN.{length, getD, set, take, drop, replicate, length-replicate, length-take, length-drop}
-use lib.Seq.{sets, set-comm, getD-set-other, take-suc, take-add, drop-cons, getD-take, getD-drop}
+use lib.Seq.{sets, set-comm, getD-set-other, take-suc, take-add, drop-cons, getD-take, getD-drop, ext-getD}
 use Rattle.words.specs.Words.{Spans, allZero}
 
 -- bytes of the same length span the same words
@@ -62,6 +62,29 @@ run-take l at k b =
 
 pub length-run : (l : List ℕ) (at k : ℕ) → at + k ≤ length l → length (take k (drop at l)) ≡ k
 length-run l at k b = length-take k (drop at l) ∙ omega (arith, length-drop at l)
+
+-- all but the first k of the n words from number `at` on
+pub drop-run : (n at k : ℕ) (l : List ℕ) → k ≤ n → drop k (take n (drop at l)) ≡ take (n - k) (drop (at + k) l)
+drop-run n at k l h =
+    ext-getD 0 (drop k (take n (drop at l))) (take (n - k) (drop (at + k) l))
+    (length-drop k (take n (drop at l))
+    ∙ omega (arith, length-take n (drop at l), length-drop at l, length-take (n - k) (drop (at + k) l), length-drop (at + k) l))
+    (λ i b.
+    let c : i < n - k = omega (arith, length-drop k (take n (drop at l)), length-take n (drop at l)) in
+    let e : at + (k + i) ≡ at + k + i = omega arith in
+    getD-drop k (take n (drop at l)) i 0
+    ∙ getD-take n (drop at l) (k + i) 0 (omega arith)
+    ∙ getD-drop at l (k + i) 0
+    ∙ ap (λ (j : ℕ). getD l j 0) e
+    ∙ sym (getD-take (n - k) (drop (at + k) l) i 0 c ∙ getD-drop (at + k) l i 0))
+
+-- the words from number j - 1 on are the one there and those from number j on
+pub run-before : (ws : List ℕ) (at c j o : ℕ) → 0 < j → j ≤ c → at + c ≤ length ws → o ≡ getD ws (at + j - 1) 0
+    → drop (j - 1) (take c (drop at ws)) ≡ o ∷ drop j (take c (drop at ws))
+run-before ws at c j o p h b here =
+    let e : j - 1 + 1 ≡ j = omega arith in
+    let f : at + (j - 1) ≡ at + j - 1 = omega arith in
+    rw (e, f) at (run-drop ws at c (j - 1) (omega arith) b) ∙ ap (λ (x : ℕ). x ∷ drop j (take c (drop at ws))) (sym here)
 
 pub replicate-more : (k : ℕ) → _≡_ {A = List ℕ} (replicate (k + 1) 0) (replicate k 0 ++ 0 ∷ [])
 replicate-more k = rw add-one (go k)

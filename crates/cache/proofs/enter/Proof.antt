@@ -11,8 +11,8 @@ use Rattle.meaning.specs.declared.Happening.{Happening}
 use Rattle.meaning.specs.Events.{known}
 use Rattle.area.specs.State.{rowFor, stateOf}
 use Rattle.table.specs.Table.{rowsIn}
-use Rattle.cache.specs.declared.Answer.the-variants.{UnknownRole}
-use Rattle.cache.specs.Calls.{eventOf}
+use Rattle.calls.specs.declared.Answer.the-variants.{UnknownRole}
+use Rattle.calls.specs.Calls.{eventOf}
 use Rattle.cache.proofs.Calling.{is-true, first-word, roles-are, roles-few}
 use Rattle.cache.proofs.Ladder.{gives, unknown}
 use Rattle.cache.proofs.enter.Statement.{statement}

@@ -15,9 +15,10 @@ use Rattle.rows.specs.declared.Row as value
 use Rattle.rows.proofs.Padded.{stored⇒row}
 use Rattle.table.specs.Table.{rowsIn, Sound, foundFor}
 use Rattle.table.specs.declared.Found.the-variants.{Vacant}
-use Rattle.cache.specs.declared.Answer.the-variants.{Contradiction, Full, Forgotten}
-use Rattle.cache.specs.Calls.{stays, eventOn, eventOf}
-use Rattle.cache.specs.Answers.{Gives, Fresh}
+use Rattle.calls.specs.declared.Answer.the-variants.{Contradiction, Full, Forgotten}
+use Rattle.calls.specs.Calls.{stays, eventOn, eventOf}
+use Rattle.calls.specs.Answers.{Gives}
+use Rattle.cache.specs.Fresh.{Fresh}
 use Rattle.roles.proofs.Member.{T-true}
 use Rattle.cache.proofs.Ladder.{gives, Entered, entered}
 use Rattle.cache.proofs.Writes.{row-none, area-kept, fitting-tidy, known-64, answered}

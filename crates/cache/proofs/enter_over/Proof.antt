@@ -12,9 +12,9 @@ use Rattle.rows.specs.Stored.{rowOf}
 use Rattle.rows.proofs.Padded.{stored⇒row}
 use Rattle.table.specs.Table.{rowsIn, Sound, foundFor}
 use Rattle.table.specs.declared.Found.the-variants.{At}
-use Rattle.cache.specs.declared.Answer.the-variants.{Done, Contradiction, Full, Forgotten}
-use Rattle.cache.specs.Calls.{stays, eventOf}
-use Rattle.cache.specs.Answers.{Gives}
+use Rattle.calls.specs.declared.Answer.the-variants.{Recorded, Contradiction, Full, Forgotten}
+use Rattle.calls.specs.Calls.{stays, eventOf}
+use Rattle.calls.specs.Answers.{Gives}
 use Rattle.roles.proofs.Member.{T-true}
 use Rattle.cache.proofs.Ladder.{gives, fitsIn-over, placed, Entered, entered}
 use Rattle.cache.proofs.Writes.{row-inside, row-there, row-says, read-tidy, known-64, answered, settled-row, settled-tidy}
@@ -36,9 +36,9 @@ module _ (l : List ℕ) (s : Sound l) (p i : ℕ) (e : Happening) (f : foundFor 
   dropped : (w : Row) (m : List ℕ) → settle e (rowFor p (rowsIn l)) .answer ≡ 8 → w ≡ settle e (rowFor p (rowsIn l)) .row → m ≡ areaOf (withRow (stateOf l) p w) → Gives (eventOf l p e) Forgotten m
   dropped w m a r q = gives (eventOf l p e) Forgotten m (law .forgets a ∙ ap (stays 8) (sym (q ∙ ap (λ (x : Row). areaOf (withRow (stateOf l) p x)) r)))
 
-  done : (w : Row) (m : List ℕ) → settle e (rowFor p (rowsIn l)) .answer ≡ 0 → w ≡ settle e (rowFor p (rowsIn l)) .row → m ≡ areaOf (withRow (stateOf l) p w) → Gives (eventOf l p e) Done m
+  done : (w : Row) (m : List ℕ) → settle e (rowFor p (rowsIn l)) .answer ≡ 0 → w ≡ settle e (rowFor p (rowsIn l)) .row → m ≡ areaOf (withRow (stateOf l) p w) → Gives (eventOf l p e) Recorded m
   done w m a r q =
-      gives (eventOf l p e) Done m
+      gives (eventOf l p e) Recorded m
       (placed l (stateOf l) p e (rowFor p (rowsIn l)) (T-true (known (stateOf l .roles) e) k) (law .agrees a) (fitsIn-over (stateOf l) p (step e (rowFor p (rowsIn l))) (law .fitting a) (row-says l s p i f))
       ∙ ap (stays 0) (sym (q ∙ ap (λ (x : Row). areaOf (withRow (stateOf l) p x)) (r ∙ law .row a))))
 

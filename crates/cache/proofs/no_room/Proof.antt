@@ -4,7 +4,7 @@ use mathlib.Core.Path.{sym, ap}
 use mathlib.Core.Bool.{cond}
 use Prim.Native.Nat.{ℕ}
 use Rattle.meaning.specs.declared.Happening.{Happening}
-use Rattle.cache.specs.Calls.{isReply}
+use Rattle.calls.specs.Calls.{isReply}
 use Rattle.cache.proofs.no_room.Statement.{statement}
 use Rattle.cache.proofs.no_room.Tie as tie
 

@@ -17,10 +17,11 @@ use Rattle.rows.specs.declared.Row as value
 use Rattle.rows.proofs.Padded.{stored⇒row}
 use Rattle.table.specs.Table.{rowsIn, Sound, foundFor}
 use Rattle.table.specs.declared.Found.the-variants.{Vacant}
-use Rattle.cache.specs.declared.Answer.{Answer}
-use Rattle.cache.specs.declared.Answer.the-variants.{Done}
-use Rattle.cache.specs.Calls.{Out, stays, isReply, eventOn, eventOf}
-use Rattle.cache.specs.Answers.{numberOf, Gives, Fresh}
+use Rattle.calls.specs.declared.Answer.{Answer}
+use Rattle.calls.specs.declared.Answer.the-variants.{Recorded}
+use Rattle.calls.specs.Calls.{Out, stays, isReply, eventOn, eventOf}
+use Rattle.calls.specs.Answers.{numberOf, Gives}
+use Rattle.cache.specs.Fresh.{Fresh}
 use Rattle.roles.proofs.Member.{T-true, T-false}
 use Rattle.cache.proofs.Places.{bytes-are}
 use Rattle.cache.proofs.Ladder.{gives, fitsIn-blank, fitsIn-room, fitsIn-none, placed, no-place}
@@ -49,10 +50,10 @@ module _ (l : List ℕ) (s : Sound l) (p i : ℕ) (e : Happening) (w : value.Row
   empty : isBlank (rowFor p (rowsIn l)) ≡ true
   empty = ap isBlank (row-none l s p i f)
 
-  nothing : Bytes l → isBlank (rowOf w) ≡ true → Gives (eventOf l p e) Done l
+  nothing : Bytes l → isBlank (rowOf w) ≡ true → Gives (eventOf l p e) Recorded l
   nothing bytes b =
       let q = sym (ap isBlank same) ∙ b in
-      gives (eventOf l p e) Done l
+      gives (eventOf l p e) Recorded l
       (at-blank ∙ placed l (stateOf l) p e blank knows clear (fitsIn-blank (stateOf l) p (step e blank) room q) ∙ ap (stays 0) (area-kept l s p i f (step e blank) q bytes))
 
   either : (b : Bool) → cond b (stays 7 l) (stays 8 l) ≡ stays (cond b 7 8) l
@@ -68,9 +69,9 @@ module _ (l : List ℕ) (s : Sound l) (p i : ℕ) (e : Happening) (w : value.Row
       ∙ either (isReply e)
       ∙ ap (λ (a : ℕ). stays a l) (sym q))
 
-  made : (m : List ℕ) → length (rowsIn l) < mostRows → m ≡ areaOf (withRow (stateOf l) p (rowOf w)) → Gives (eventOf l p e) Done m
+  made : (m : List ℕ) → length (rowsIn l) < mostRows → m ≡ areaOf (withRow (stateOf l) p (rowOf w)) → Gives (eventOf l p e) Recorded m
   made m u q =
-      gives (eventOf l p e) Done m
+      gives (eventOf l p e) Recorded m
       (at-blank
       ∙ placed l (stateOf l) p e blank knows clear (fitsIn-room (stateOf l) p (step e blank) room u)
       ∙ ap (stays 0) (sym (q ∙ ap (λ (x : Row). areaOf (withRow (stateOf l) p x)) same)))

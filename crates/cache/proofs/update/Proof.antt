@@ -4,7 +4,7 @@ use borrow.Author.Tests.{not-true, not-false}
 use mathlib.Core.Path.{sym, _∙_}
 use native.Mathlib.Omega.{arith}
 use Rattle.table.proofs.RowWords.{sound}
-use Rattle.cache.specs.Calls.{updated}
+use Rattle.calls.specs.Calls.{updated}
 use Rattle.cache.proofs.Calling.{is-true, is-valid, not-valid}
 use Rattle.cache.proofs.Fronts.{event-1, event-3, event-5, event-go, update-is, update-one, update-zero}
 use Rattle.cache.proofs.update.Statement.{statement}

@@ -2,7 +2,7 @@
 use borrow.Author.Needs.{needs}
 use Prim.Native.Nat.{_<_, _^_}
 use native.Mathlib.Omega.{arith}
-use Rattle.lines.proofs.Texts.{length-answer}
+use Rattle.answers.proofs.Texts.{length-answer}
 use Rattle.lines.proofs.Places.{end-inside, line-kept, line-answered}
 use Rattle.lines.proofs.read_line.Statement.{statement}
 use Rattle.lines.proofs.read_line.Tie as tie

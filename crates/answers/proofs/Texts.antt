@@ -1,0 +1,53 @@
+-- Texts written part by part into a buffer that has room for the whole, and how long they are. Assumes nothing.
+use mathlib.Core.Path.{_≡_, refl}
+use mathlib.Core.List.{List, [], _∷_, _++_}
+use Prim.Native.Nat.{ℕ, _+_, _*_, _≤_, _<_, _^_}
+use native.Mathlib.Numerals.{add-one}
+use native.Mathlib.Omega.{arith}
+use lib.ListN.{length, drop, getD, length-append, drop-of-length-le}
+use lib.Seq.{drop-cons}
+use Rattle.text.specs.Ascii.{space}
+use Rattle.text.specs.Set.{setText}
+use Rattle.text.specs.Write.{Wrote}
+use Rattle.text.proofs.WriteLaws.{wrote-length}
+use Rattle.text.proofs.Shape.{length-number, length-set-text}
+use Rattle.area.specs.State.{Entry}
+use Rattle.answers.specs.Texts.{answerText, setsOf, setsText, rowText}
+
+pub room-first : (at : ℕ) (t u : List ℕ) {n : ℕ} → at + length (t ++ u) ≤ n → at + length t ≤ n
+room-first at t u h = omega (arith, length-append t u)
+
+pub wrote-room : {d : List ℕ} {at : ℕ} {t e : List ℕ} {p : ℕ} → Wrote d at t e p → (u : List ℕ) → at + length (t ++ u) ≤ length d → p + length u ≤ length e
+wrote-room {t = t} w u h = omega (arith, length-append t u, wrote-length w, w .next)
+
+-- ---- sets, one after the other
+
+pub sets-next : (l : List ℕ) (i : ℕ) → i < length l → setsText (drop i l) ≡ ((space ∷ []) ++ setText (getD l i 0)) ++ setsText (drop (i + 1) l)
+unfolding setsText
+sets-next l i h = rw (add-one, drop-cons l i 0 h) refl
+
+pub sets-end : (l : List ℕ) (i : ℕ) → length l ≤ i → setsText (drop i l) ≡ []
+unfolding setsText
+sets-end l i h = rw (drop-of-length-le l {i = i} h) refl
+
+-- ---- lengths
+
+length-sets-text : (l : List ℕ) → length (setsText l) ≤ 182 * length l
+unfolding setsText
+length-sets-text [] = omega arith
+length-sets-text (s ∷ l) = omega (arith, length-append ((space ∷ []) ++ setText s) (setsText l), length-append (space ∷ []) (setText s), length-set-text s, length-sets-text l)
+
+pub length-row : (e : Entry) → e .permission < 2 ^ 32 → length (e .row .opens) ≤ 15 → length (rowText e) ≤ 4096
+unfolding rowText
+length-row e p k =
+    let n = length-number 9 (e .permission) (omega arith) in
+    let few : length (setsOf (e .row)) ≤ 16 = omega (arith, length-append (e .row .opens) (e .row .denied ∷ [])) in
+    let s = length-sets-text (setsOf (e .row)) in
+    simp length-append (omega arith)
+
+pub length-answer : (k a : ℕ) → k < 2 ^ 64 → a < 2 ^ 32 → length (answerText k a) ≤ 4096
+unfolding answerText
+length-answer k a h j =
+    let n = length-number 19 k (omega arith) in
+    let m = length-number 9 a (omega arith) in
+    simp length-append (omega arith)

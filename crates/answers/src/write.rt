@@ -1,0 +1,68 @@
+// The texts that the program writes, into a lent buffer.
+use roles::RoleSet;
+use rows::Row;
+use text::write_number;
+use text::write_set;
+ghost use mathlib.Core.List.{[], _∷_, _++_};
+ghost use Prim.Native.Nat.{_+_, _≤_};
+ghost use lib.ListN.{length};
+ghost use Rattle.meaning.specs.Rows.{mostOpens};
+ghost use Rattle.rows.specs.Stored.{Tidy, rowOf};
+ghost use Rattle.table.specs.Table.{entry};
+ghost use Rattle.text.specs.Ascii.{space};
+ghost use Rattle.text.specs.Set.{setText};
+ghost use Rattle.text.specs.Write.{Wrote};
+ghost use Rattle.answers.specs.Texts.{answerText, setsText, rowText};
+
+// The answer to a line: its number, a space, the answer, LF.
+pub fn write_answer(out: &mut [u8], at: usize, number: u64, answer: u32) -> usize
+    requires { ⌜ at + length (answerText number answer) ≤ length (now out) ⌝ }
+    ensures { λ next. ⌜ Wrote (now (out .entry)) at (answerText number answer) (now (out .exit)) next ⌝ }
+{
+    let a = write_number(out, at, number);
+    out[a] = b' ';
+    let e = write_number(out, a + 1, answer as u64);
+    out[e] = b'\n';
+    e + 1
+}
+
+// A set with a space before it.
+fn write_field(out: &mut [u8], at: usize, s: RoleSet) -> usize
+    requires { ⌜ at + length ((space ∷ []) ++ setText (s .bits)) ≤ length (now out) ⌝ }
+    ensures { λ next. ⌜ Wrote (now (out .entry)) at ((space ∷ []) ++ setText (s .bits)) (now (out .exit)) next ⌝ }
+{
+    out[at] = b' ';
+    write_set(out, at + 1, s)
+}
+
+fn write_sets(out: &mut [u8], at: usize, sets: &[u64]) -> usize
+    requires { ⌜ at + length (setsText (now sets)) ≤ length (now out) ⌝ }
+    ensures { λ next. ⌜ Wrote (now (out .entry)) at (setsText (now (sets .entry))) (now (out .exit)) next ⌝ }
+{
+    let mut place = at;
+    let mut i = 0;
+    while i < sets.len() {
+        let s = RoleSet { bits: sets[i] };
+        i += 1;
+        place = write_field(out, place, s);
+    }
+    place
+}
+
+// A row: `= p denied open open ..`, LF.
+pub fn write_row(out: &mut [u8], at: usize, p: u32, w: Row) -> usize
+    requires { ⌜ Tidy mostOpens (w .opens) × (at + length (rowText (entry p (rowOf w))) ≤ length (now out)) ⌝ }
+    ensures { λ next. ⌜ Wrote (now (out .entry)) at (rowText (entry p (rowOf w))) (now (out .exit)) next ⌝ }
+{
+    let d = w.denied;
+    let l = w.opens;
+    let sets = l.sets;
+    let n = l.count;
+    out[at] = b'=';
+    out[at + 1] = b' ';
+    let a = write_number(out, at + 2, p as u64);
+    let b = write_field(out, a, d);
+    let e = write_sets(out, b, &sets[..n]);
+    out[e] = b'\n';
+    e + 1
+}

@@ -1,0 +1,39 @@
+// The answers of the calls; `specs/Calls.antt` defines the calls themselves.
+ghost use mathlib.Core.Path.{_≡_};
+ghost use Rattle.calls.specs.Answers.{numberOf};
+
+// What a call answers; `numberOf` has the numbers.
+pub enum Answer {
+    Recorded,
+    BadArea,
+    BadRoleCount,
+    NoPermission,
+    UnknownRole,
+    BadNumber,
+    Contradiction,
+    Full,
+    Forgotten,
+    Deny,
+    Allow,
+    Undecided,
+}
+
+// Document 01's number of an answer.
+pub fn number(r: Answer) -> u32
+    ensures { λ n. ⌜ n ≡ numberOf r ⌝ }
+{
+    match r {
+        Answer::Recorded => 0,
+        Answer::BadArea => 1,
+        Answer::BadRoleCount => 2,
+        Answer::NoPermission => 3,
+        Answer::UnknownRole => 4,
+        Answer::BadNumber => 5,
+        Answer::Contradiction => 6,
+        Answer::Full => 7,
+        Answer::Forgotten => 8,
+        Answer::Deny => 10,
+        Answer::Allow => 11,
+        Answer::Undecided => 12,
+    }
+}

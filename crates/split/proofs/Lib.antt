@@ -1,0 +1,2 @@
+-- The laws of lines held and lines split.
+pub mod SplitLaws
