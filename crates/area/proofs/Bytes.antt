@@ -1,9 +1,9 @@
 -- Good bytes are the bytes of a good state, and that state is one and the same. Assumes nothing.
-use mathlib.Core.Path.{_≡_, refl, sym, ap, _∙_, subst⁻¹}
+use mathlib.Core.Path.{_≡_, sym, ap, _∙_, subst⁻¹}
 use mathlib.Core.List.{List, [], _∷_, _++_}
 use mathlib.Core.Logic.{_⊎_, inl, inr, ⊎-elim}
 use Prim.Native.Nat.{ℕ, zero, suc, _*_, _^_, _<_}
-use native.Mathlib.Nat.{le-of-suc-le-suc, lt-of-lt-of-le}
+use native.Mathlib.Nat.{lt-of-lt-of-le}
 use native.Mathlib.Omega.{arith}
 use lib.Dec.{T, eqb, eqb→eq, eqb-refl}
 use lib.ListN.{length, getD, replicate}
@@ -13,12 +13,12 @@ use Rattle.words.specs.Words.{words, bytesOf}
 use Rattle.words.proofs.Laws.{Bytes, length-words, length-bytesOf, bytes-bytesOf, words-bytesOf, bytesOf-words}
 use Rattle.meaning.specs.Lists.{Mem}
 use Rattle.meaning.specs.Rows.{mostOpens}
-use Rattle.meaning.proofs.ListLaws.{mem-take}
+use Rattle.meaning.proofs.ListLaws.{mem-at, mem-take}
 use Rattle.area.specs.Layout.{mostRows, contentWords, bodyWords, areaBytes, goodArea, goodBytes}
 use Rattle.area.specs.State.{Entry, State, GoodState, pad, each, content, body, header, wordsOf, areaOf, heldBy, stateOf}
-use Rattle.area.proofs.RowLaws.{none, GoodEntry, row-good}
+use Rattle.area.proofs.RowLaws.{none}
 use Rattle.area.proofs.Held.{length-wordsOf}
-use Rattle.area.proofs.Rules.{area-holds, held-is, state-area}
+use Rattle.area.proofs.Rules.{area-holds, facts, held-is, state-area}
 
 -- ---- members of the parts of an area
 
@@ -39,29 +39,21 @@ unfolding each
 mem-each f x [] m = absurd m
 mem-each f x (e ∷ es) m = ⊎-elim (λ k. (0, omega arith, k)) (λ k. let r = mem-each f x es k in let h = r .1 in (suc (r .0), omega arith, r .2)) (mem-append x (f e) (each f es) m)
 
-at-mem : (l : List ℕ) (j : ℕ) → j < length l → Mem (getD l j 0) l
-at-mem [] j u = absurd (let z : ⊥ = omega arith in z)
-at-mem (x ∷ l) zero u = inl refl
-at-mem (x ∷ l) (suc j) u = inr (at-mem l j (le-of-suc-le-suc u))
-
 -- ---- each word of a good state fits 64 bits
 
 module _ (s : State) (g : GoodState s) where
   set-fits : (x : ℕ) → x < 2 ^ s .roles → x < 2 ^ 64
   set-fits x h = lt-of-lt-of-le h (pow-mono (g .most-roles))
 
-  fact : (i : ℕ) → i < length (s .rows) → GoodEntry (s .roles) 0 (getD (s .rows) i none)
-  fact = row-good (s .roles) 0 (s .rows) (g .good-rows)
-
   content-fits : (x i : ℕ) → i < length (s .rows) → Mem x (content (getD (s .rows) i none)) → x < 2 ^ 64
   content-fits x i h m =
-      let v = fact i h .valid in
-      let w = fact i h .good-row .few in
+      let v = facts s g i h .valid in
+      let w = facts s g i h .good-row .few in
       ⊎-elim (λ e. omega arith) (⊎-elim (λ e. omega arith) (λ k. absurd k)) m
 
   body-fits : (x i : ℕ) → i < length (s .rows) → Mem x (body (getD (s .rows) i none)) → x < 2 ^ 64
   body-fits x i h m =
-      let good = fact i h .good-row .good in
+      let good = facts s g i h .good-row .good in
       ⊎-elim
       (λ e. subst⁻¹ (λ (y : ℕ). y < 2 ^ 64) e (set-fits (getD (s .rows) i none .row .denied) (good .denied-below)))
       (λ k. ⊎-elim (λ q. set-fits x (good .below x q)) (λ q. omega arith) (mem-pad x mostOpens (getD (s .rows) i none .row .opens) k))
@@ -84,7 +76,7 @@ module _ (s : State) (g : GoodState s) where
 
   pub words-area : words (areaOf s) ≡ wordsOf s
   unfolding areaOf
-  words-area = words-bytesOf (wordsOf s) (λ i u. word-fits (getD (wordsOf s) i 0) (at-mem (wordsOf s) i u))
+  words-area = words-bytesOf (wordsOf s) (λ i u. word-fits (getD (wordsOf s) i 0) (mem-at (wordsOf s) i u))
 
   pub length-area : length (areaOf s) ≡ areaBytes
   unfolding areaOf

@@ -1,6 +1,6 @@
 -- What the functions of the check cite: runs of words in the layout, rows of zeros, and the rules as tests. Assumes nothing.
 use mathlib.Core.Path.{_≡_, refl, sym, ap, ap₂, _∙_, subst, subst⁻¹}
-use mathlib.Core.Bool.{Bool, true, false, not, _&&_, _||_, and-true, and-false}
+use mathlib.Core.Bool.{Bool, true, false, not, _&&_, _||_, and-true, and-false, and-assoc}
 use mathlib.Core.List.{List}
 use Prim.Native.Nat.{ℕ, zero, suc, _+_, _-_, _*_, _≤_, _<_}
 use native.Mathlib.Numerals.{add-one}
@@ -25,9 +25,7 @@ use Rattle.area.proofs.Rules.{eachBelow-law}
 
 -- tests as code joins them, and as a list of rules does
 regrouped : (a c d o : Bool) → (((a && c) && d) && o) ≡ (a && (c && (d && (o && true))))
-regrouped true true d o = ap (λ (x : Bool). d && x) (sym (and-true o))
-regrouped true false d o = refl
-regrouped false c d o = refl
+regrouped a c d o = and-assoc (a && c) d o ∙ and-assoc a c (d && o) ∙ ap (λ (x : Bool). a && (c && (d && x))) (sym (and-true o))
 
 -- an area has every word of the layout
 pub area-spans : (l : List ℕ) (n : ℕ) → length l ≡ areaBytes → n ≤ areaWords → Spans l n

@@ -1,6 +1,6 @@
 -- The laws of rows by permission: what is found, what is put, at which place, and that what is found fixes the rows. Assumes nothing.
 use mathlib.Core.Path.{_≡_, refl, sym, ap, ap₂, _∙_, subst⁻¹}
-use mathlib.Core.Bool.{Bool, true, false, not, cond}
+use mathlib.Core.Bool.{Bool, true, false, cond}
 use mathlib.Core.List.{List, [], _∷_, _++_, append-nil}
 use mathlib.Core.Logic.{_↔_, _≢_, _⊎_, inl, inr, ⊎-elim}
 use Prim.Native.Nat.{ℕ, zero, suc, _+_, _≤_, _<_}
@@ -12,7 +12,7 @@ use borrow.Author.Tests.{eq-eqb, ne-eqb, lt-ltb, le-ltb}
 use lib.Dec.{T, eqb, eqb→eq}
 use lib.ListN.{length, getD, drop, set, length-append, length-take, length-drop, length-set, drop-of-length-le}
 use lib.Seq.{drop-cons}
-use Rattle.roles.proofs.Member.{T-and}
+use Rattle.roles.proofs.Member.{T-and, T-false}
 use Rattle.meaning.specs.Rows.{Row, blank, Good, mostOpens}
 use Rattle.meaning.proofs.Kept.{blank-good}
 use Rattle.meaning.specs.Events.{lastPermission}
@@ -46,11 +46,7 @@ isBlank-law w = (
 
 -- a good row is not blank
 pub goodRow-says : (n : ℕ) (w : Row) → GoodRow n w → isBlank w ≡ false
-goodRow-says n w g = says (isBlank w) (g .says)
-  where
-    says : (b : Bool) → T (not b) → b ≡ false
-    says true h = absurd h
-    says false h = refl
+goodRow-says n w g = T-false (isBlank w) (g .says)
 
 by-blank : {P : Type 0} (w : Row) → (isBlank w ≡ true → P) → (isBlank w ≡ false → P) → P
 by-blank {P} w f g = go (isBlank w) refl

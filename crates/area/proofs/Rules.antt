@@ -11,10 +11,11 @@ use lib.ListN.{length, getD, drop}
 use Rattle.words.specs.Words.{allZero}
 use Rattle.roles.specs.Sets.{allBelow, mostRoles}
 use Rattle.roles.proofs.Member.{T-and}
+use Rattle.roles.proofs.Laws.{leb-allBelow}
 use Rattle.meaning.specs.Rows.{mostOpens}
 use Rattle.meaning.specs.Events.{lastPermission}
 use Rattle.opens.specs.Opens.{opensGood, placesGood}
-use Rattle.opens.proofs.OpenRules.{allOf-law, most-below, opensGood-law}
+use Rattle.opens.proofs.OpenRules.{allOf-law, opensGood-law}
 use Rattle.area.specs.Layout.{mostRows, contentWords, bodyWords, areaWords, roleCount, rowsUsed, contents, bodies, permissionAt, countAt, deniedAt, placesAt, opensAt, permissionBefore, eachBelow, rowRules, goodRowAt, areaRules, goodArea}
 use Rattle.area.specs.State.{Entry, State, GoodRow, GoodRows, GoodState, pad, each, content, body, wordsOf, entryAt, entriesFrom, heldBy}
 use Rattle.area.proofs.RowLaws.{none, GoodEntry, row-good, rows-ascending}
@@ -65,7 +66,7 @@ module _ (ws : List ℕ) (long : length ws ≡ areaWords) (used : rowsUsed ws �
         let r = allOf-law (rowRules ws i) .0 t in
         let few = leb→le (countAt ws i) mostOpens (r .1 .1 .0) in
         let len = opens-long ws long used i h few in
-        let d = most-below (roleCount ws) (deniedAt ws i) .0 (r .1 .1 .1 .0) in
+        let d = leb-allBelow (roleCount ws) (deniedAt ws i) .0 (r .1 .1 .1 .0) in
         let places = places-law .0 (r .1 .1 .1 .1 .1 .0) in
         record {
           few = few;
@@ -89,7 +90,7 @@ module _ (ws : List ℕ) (long : length ws ≡ areaWords) (used : rowsUsed ws �
             (
               le→leb (countAt ws i) mostOpens (f .few),
               (
-                most-below (roleCount ws) (deniedAt ws i) .1 d,
+                leb-allBelow (roleCount ws) (deniedAt ws i) .1 d,
                 (
                   says-law (deniedAt ws i) (countAt ws i) (length (opensAt ws i)) len .1 (g .says),
                   (places-law .1 (opensGood-law (roleCount ws) (deniedAt ws i) (opensAt ws i) d .1 (g .good), f .behind), tt),
@@ -167,7 +168,7 @@ zeros-behind : (n : ℕ) (l whole : List ℕ) (u : ℕ) → u ≡ length l → w
 zeros-behind n l whole u e w h = rw (e, w) (pad-behind n l h)
 
 module _ (s : State) (g : GoodState s) where
-  facts : (i : ℕ) → i < length (s .rows) → GoodEntry (s .roles) 0 (getD (s .rows) i none)
+  pub facts : (i : ℕ) → i < length (s .rows) → GoodEntry (s .roles) 0 (getD (s .rows) i none)
   facts = row-good (s .roles) 0 (s .rows) (g .good-rows)
 
   pub few-opens : (i : ℕ) → i < length (s .rows) → length (getD (s .rows) i none .row .opens) ≤ mostOpens

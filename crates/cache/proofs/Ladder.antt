@@ -1,6 +1,6 @@
 -- The answer to an event on a good area, by what the row's step comes to. Assumes nothing.
 use mathlib.Core.Path.{_≡_, refl, sym, ap, _∙_}
-use mathlib.Core.Bool.{Bool, true, false, not, cond, _&&_, _||_}
+use mathlib.Core.Bool.{Bool, true, false, not, cond, _&&_, _||_, or-true}
 use mathlib.Core.List.{List}
 use Prim.Native.Nat.{ℕ, _≤_, _<_}
 use borrow.Author.Tests.{lt-ltb, le-ltb}
@@ -11,7 +11,6 @@ use Rattle.meaning.specs.declared.Happening.the-variants.{Allow, Deny, Given, W
 use Rattle.meaning.specs.Events.{known}
 use Rattle.meaning.specs.Rows.{Row, blank, fits, contradicts, step, Settled, unchanged, forgotten, overflow, settle}
 use Rattle.meaning.proofs.Verdicts.{unlike}
-use Rattle.meaning.proofs.Walks.{or-true}
 use Rattle.area.specs.Layout.{mostRows}
 use Rattle.area.specs.State.{State, isBlank, rowFor, withRow}
 use Rattle.calls.specs.declared.Answer.{Answer}

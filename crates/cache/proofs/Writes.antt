@@ -8,9 +8,9 @@ use lib.Dec.{T}
 use lib.Pow.{pow-mono}
 use lib.ListN.{length, set}
 use Rattle.words.proofs.Laws.{Bytes}
-use Rattle.meaning.specs.declared.Happening.{Happening}
 use Rattle.roles.specs.Sets.{mostRoles}
 use Rattle.roles.proofs.Laws.{partOf-allBelow}
+use Rattle.meaning.specs.declared.Happening.{Happening}
 use Rattle.meaning.specs.Events.{about, known}
 use Rattle.meaning.specs.Rows.{Row, blank, mostOpens, fits, settle}
 use Rattle.meaning.proofs.Answers.{fits-law}
@@ -27,6 +27,7 @@ use Rattle.rows.proofs.Padded.{stored⇒tidy, stored⇒row, tidy-count}
 use Rattle.table.proofs.RowWords.{opens-few}
 use Rattle.table.specs.Table.{rowsIn, Sound, holding, entry, nth, foundFor}
 use Rattle.table.specs.declared.Found.the-variants.{At, Vacant}
+use Rattle.calls.specs.Calls.{eventOn, eventOf}
 use Rattle.cache.proofs.Places.{found-at, found-vacant}
 
 module _ (l : List ℕ) (s : Sound l) (p i : ℕ) where
@@ -66,6 +67,9 @@ module _ (l : List ℕ) (s : Sound l) (p i : ℕ) where
 
     pub row-none : rowFor p (rowsIn l) ≡ blank
     row-none = miss-row (stateOf l .roles) 0 p (rowsIn l) (good-state l (s .good) .good-rows) miss
+
+    pub event-none : (h : Happening) → eventOf l p h ≡ eventOn l (stateOf l) p h blank
+    event-none h = ap (eventOn l (stateOf l) p h) row-none
 
     pub state-new : (w : Row) → isBlank w ≡ false → holding l (insertAt i (entry p w) (rowsIn l)) ≡ withRow (stateOf l) p w
     state-new w b = ap (holding l) (ap (λ (k : ℕ). insertAt k (entry p w) (rowsIn l)) place-is ∙ sym (put-new p w (rowsIn l) miss b))

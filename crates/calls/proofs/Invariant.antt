@@ -42,17 +42,17 @@ unfolding rowAfter
 recorded-then n w [] e r k a = (k, a, tt)
 recorded-then n w (f ∷ es) e r k a = (r .0, r .1, recorded-then n (step f w) es e (r .2) k a)
 
+either-way : (b : Bool) (t : List Happening) → cond b t t ≡ t
+either-way true t = refl
+either-way false t = refl
+
 lengthened-other : (q p : ℕ) (e : Happening) (a : ℕ) (t : List Happening) → p ≢ q → lengthened q p e a t ≡ t
 unfolding lengthened
 lengthened-other q p e a t d = rw (ne-eqb p q d)
 
 lengthened-refused : (q p : ℕ) (e : Happening) (a : ℕ) (t : List Happening) → a ≢ 0 → a ≢ 8 → lengthened q p e a t ≡ t
 unfolding lengthened
-lengthened-refused q p e a t h k = rw (ne-eqb a 0 h, ne-eqb a 8 k) (go (eqb p q))
-  where
-    go : (b : Bool) → cond b t t ≡ t
-    go true = refl
-    go false = refl
+lengthened-refused q p e a t h k = rw (ne-eqb a 0 h, ne-eqb a 8 k) (either-way (eqb p q) t)
 
 lengthened-recorded : (q p : ℕ) (e : Happening) (t : List Happening) → p ≡ q → lengthened q p e 0 t ≡ t ++ e ∷ []
 unfolding lengthened
@@ -105,17 +105,13 @@ module _ (n : ℕ) (h : History) (k : Holds n h) where
 
   forget-holds : (p : ℕ) → Holds n (record { area = forgetOf (h .area) p .area; trail = λ q. cond (eqb p q) (cond (eqb (forgetOf (h .area) p .answer) 0) [] (h .trail q)) (h .trail q) })
   forget-holds p = subst⁻¹ (λ (l : List ℕ). Goal (forgetOf l p)) (k .area) (⊎-elim
-      (λ d. subst⁻¹ Goal d (make (k .state) (k .good) (k .roles) (areaOf (k .state)) refl (λ q. cond (eqb p q) (h .trail q) (h .trail q)) (λ q. subst⁻¹ (Belongs n (rowFor q (k .state .rows))) (twice (eqb p q) (h .trail q)) (belongs q))))
+      (λ d. subst⁻¹ Goal d (make (k .state) (k .good) (k .roles) (areaOf (k .state)) refl (λ q. cond (eqb p q) (h .trail q) (h .trail q)) (λ q. subst⁻¹ (Belongs n (rowFor q (k .state .rows))) (either-way (eqb p q) (h .trail q)) (belongs q))))
       (λ d. subst⁻¹ Goal (d .1) (make (withRow (k .state) p blank) (drop-state (k .state) (k .good) p (d .0)) (k .roles) (areaOf (withRow (k .state) p blank)) refl (λ q. cond (eqb p q) [] (h .trail q))
       (λ q. drop-belongs p q (cond (eqb p q) [] (h .trail q)) (λ f. ap (λ (b : Bool). cond b [] (h .trail q)) (eq-eqb p q f)) (λ f. ap (λ (b : Bool). cond b [] (h .trail q)) (ne-eqb p q f)))))
       (forget-on (k .state) (k .good) p))
     where
       Goal : Out → Type 0
       Goal o = Holds n (record { area = o .area; trail = λ q. cond (eqb p q) (cond (eqb (o .answer) 0) [] (h .trail q)) (h .trail q) })
-
-      twice : (b : Bool) (t : List Happening) → cond b t t ≡ t
-      twice true t = refl
-      twice false t = refl
 
   pub next-holds : (c : Call) → Holds n (next c h)
   unfolding next outOf trailAfter

@@ -1,6 +1,6 @@
 -- What a test over a list gains by one more of it: the answer for the rest is the answer for all. Assumes nothing.
 use mathlib.Core.Path.{_≡_, refl, sym, ap, _∙_}
-use mathlib.Core.Bool.{Bool, true, false, _||_}
+use mathlib.Core.Bool.{Bool, true, false, _||_, or-true, or-false, or-assoc}
 use mathlib.Core.List.{List, [], _∷_, _++_}
 use Prim.Native.Nat.{ℕ, _+_, _≤_, _<_}
 use native.Mathlib.Numerals.{add-one}
@@ -30,19 +30,7 @@ module _ (p : ℕ → Bool) (l : List ℕ) (i : ℕ) (e : any p (drop i l) ≡ a
 any-append : (p : ℕ → Bool) (k l : List ℕ) → any p (k ++ l) ≡ (any p k || any p l)
 unfolding any
 any-append p [] l = refl
-any-append p (x ∷ k) l = go (p x) (any-append p k l)
-  where
-    go : (t : Bool) → any p (k ++ l) ≡ (any p k || any p l) → (t || any p (k ++ l)) ≡ ((t || any p k) || any p l)
-    go true e = refl
-    go false e = e
-
-pub or-true : (b : Bool) → (b || true) ≡ true
-or-true true = refl
-or-true false = refl
-
-or-false : (b : Bool) → (b || false) ≡ b
-or-false true = refl
-or-false false = refl
+any-append p (x ∷ k) l = ap (λ (b : Bool). p x || b) (any-append p k l) ∙ sym (or-assoc (p x) (any p k) (any p l))
 
 pub any-one : (p : ℕ → Bool) (l : List ℕ) (x : ℕ) → any p (l ++ x ∷ []) ≡ (any p l || p x)
 unfolding any

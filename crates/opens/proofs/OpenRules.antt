@@ -5,11 +5,10 @@ use mathlib.Core.List.{List, [], _∷_}
 use mathlib.Core.Logic.{_↔_, _≢_, inl, inr, ⊎-elim}
 use Prim.Native.Nat.{ℕ, _^_, _<_}
 use native.Mathlib.Omega.{arith}
-use lib.Dec.{T, T-not, not-T, eqb, leb, eqb→eq, ltb→lt, lt→ltb, leb→le, le→leb}
-use lib.Pow.{pow-pos}
+use lib.Dec.{T, T-not, not-T, eqb, eqb→eq, ltb→lt, lt→ltb}
 use Rattle.roles.specs.Sets.{allBelow, shares, partOf}
 use Rattle.roles.proofs.Member.{T-and}
-use Rattle.roles.proofs.Laws.{partOf-le}
+use Rattle.roles.proofs.Laws.{partOf-le, leb-allBelow}
 use Rattle.meaning.specs.Lists.{Mem, Ascending}
 use Rattle.meaning.specs.Rows.{Good}
 use Rattle.meaning.proofs.ListLaws.{none-law}
@@ -33,15 +32,6 @@ nonzero x = (
   (λ h e. T-not (eqb x 0) h (subst⁻¹ (λ (y : ℕ). T (eqb y 0)) e tt)),
   λ n. not-T (eqb x 0) (λ t. n (eqb→eq x 0 t)),
 )
-
--- a set has only roles below n exactly when it is at most the set of them all
-pub most-below : (n s : ℕ) → T (leb s (allBelow n)) ↔ (s < 2 ^ n)
-unfolding allBelow
-most-below n s =
-    let pos = pow-pos n in (
-      (λ h. let k = leb→le s (allBelow n) h in omega arith),
-      λ h. le→leb s (allBelow n) (omega arith),
-    )
 
 -- ---- the open sets of a row
 
@@ -69,7 +59,7 @@ module _ (n d : ℕ) where
         let alone = none-law (partOf o) l .0 (r .1 .1 .1 .1 .0) in
         record {
           denied-below = b;
-          below = λ x. ⊎-elim (λ e. subst⁻¹ (λ (z : ℕ). z < 2 ^ n) e (most-below n o .0 (r .1 .0))) (g .below x);
+          below = λ x. ⊎-elim (λ e. subst⁻¹ (λ (z : ℕ). z < 2 ^ n) e (leb-allBelow n o .0 (r .1 .0))) (g .below x);
           nonempty = λ x. ⊎-elim (λ e. subst⁻¹ (λ (z : ℕ). z ≢ 0) e (nonzero o .0 (r .0))) (g .nonempty x);
           apart-from-denied = λ x. ⊎-elim (λ e. subst⁻¹ (λ (z : ℕ). ¬ (T (shares z d))) e (T-not (shares o d) (r .1 .1 .0))) (g .apart-from-denied x);
           ascending = (above, g .ascending);
@@ -98,7 +88,7 @@ module _ (n d : ℕ) where
           allOf-law (openRules (allBelow n) d o l) .1 (
             nonzero o .1 (g .nonempty o (inl refl)),
             (
-              most-below n o .1 (g .below o (inl refl)),
+              leb-allBelow n o .1 (g .below o (inl refl)),
               (
                 not-T (shares o d) (g .apart-from-denied o (inl refl)),
                 (

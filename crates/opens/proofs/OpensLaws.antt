@@ -1,6 +1,6 @@
 -- What the tests of open sets cite: sets that stand apart, and sets passed from the last to the first. Assumes nothing.
 use mathlib.Core.Path.{_≡_, refl, sym, ap, ap₂, _∙_, subst, subst⁻¹}
-use mathlib.Core.Bool.{Bool, true, false, not, _&&_, _||_, and-true, and-false}
+use mathlib.Core.Bool.{Bool, true, false, not, _&&_, _||_, and-true, and-false, and-comm}
 use mathlib.Core.List.{List, [], _∷_, _++_}
 use mathlib.Core.Logic.{_↔_, inl, inr, ⊎-elim}
 use Prim.Native.Nat.{ℕ, zero, suc, _+_, _-_, _≤_, _<_}
@@ -277,7 +277,3 @@ unfolding placesGood
 places-tests m d c at ws h ez eo =
     ap₂ (λ (x y : Bool). x && y) (ez ∙ ap allZero (sym (drop-run mostOpens at c ws h))) (eo ∙ ap (opensGood m d) (sym (take-take c mostOpens (drop at ws) h)))
     ∙ and-comm (allZero (drop c (take mostOpens (drop at ws)))) (opensGood m d (take c (take mostOpens (drop at ws))))
-  where
-    and-comm : (x y : Bool) → (x && y) ≡ (y && x)
-    and-comm true y = sym (and-true y)
-    and-comm false y = sym (and-false y)

@@ -1,6 +1,6 @@
 -- What the search for a part of a set cites: where it ends, and that what it passes is no part. Assumes nothing.
 use mathlib.Core.Path.{_≡_, refl, sym, ap, _∙_, subst, subst⁻¹}
-use mathlib.Core.Bool.{Bool, true, false, cond, _||_}
+use mathlib.Core.Bool.{Bool, true, false, cond, _||_, or-true, or-assoc}
 use mathlib.Core.List.{List, [], _∷_, _++_}
 use mathlib.Core.Logic.{inl, inr, ⊎-elim}
 use Prim.Native.Nat.{ℕ, zero, suc, _+_, _-_, _≤_, _<_}
@@ -16,7 +16,7 @@ use Rattle.roles.proofs.Member.{T-ext, T-or, T-true, in-joined, partOf-law}
 use Rattle.roles.proofs.Laws.{partOf-refl}
 use Rattle.meaning.specs.Lists.{any}
 use Rattle.meaning.specs.Rows.{hasPart}
-use Rattle.meaning.proofs.Walks.{drop-next, or-true, any-one}
+use Rattle.meaning.proofs.Walks.{drop-next, any-one}
 use Rattle.opens.specs.Parts.{firstPart}
 
 -- ---- one word more
@@ -139,7 +139,3 @@ module _ (s t : ℕ) (ws : List ℕ) (at i : ℕ) (b : at + i < length ws) where
       ∙ or-assoc (hasPart s run) (hasPart t run) (partOf s t)
       ∙ ap (λ (x : Bool). hasPart s run || x)
       (sym (ap (hasPart t) (run-take ws at i b ∙ ap (λ (x : ℕ). run ++ x ∷ []) (sym e)) ∙ any-one (λ (x : ℕ). partOf x t) run s))
-    where
-      or-assoc : (x y z : Bool) → ((x || y) || z) ≡ (x || (y || z))
-      or-assoc true y z = refl
-      or-assoc false y z = refl

@@ -13,7 +13,6 @@ use Rattle.words.specs.Words.{allZero}
 use Rattle.roles.specs.Sets.{shares, partOf}
 use Rattle.meaning.specs.Lists.{any}
 
--- all of the rules hold
 abbrev pub allOf : List Bool → Bool
 allOf [] = true
 allOf (b ∷ bs) = b && allOf bs
@@ -23,8 +22,8 @@ abbrev pub belowFirst : ℕ → List ℕ → Bool
 belowFirst o [] = true
 belowFirst o (p ∷ l) = ltb o p
 
--- nonempty, of roles below n, sharing no role with the denied set, below the next, part of no later one (nor of
--- an earlier one, which is smaller)
+-- nonempty, of roles below n, sharing no role with the denied set, below the next, part of no later one (nor of an earlier
+-- one, which is smaller)
 abbrev pub openRules : ℕ → ℕ → ℕ → List ℕ → List Bool
 openRules all d o l = not (eqb o 0) ∷ leb o all ∷ not (shares o d) ∷ belowFirst o l ∷ not (any (partOf o) l) ∷ []
 

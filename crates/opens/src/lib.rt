@@ -1,4 +1,4 @@
-// Whether the open sets of a row are good, where they stand in a lent area.
+// Whether the open sets of a row, which stand in lent bytes, are good.
 use meaning::MOST_OPENS;
 use roles::RoleSet;
 use words::are_zero;
@@ -132,8 +132,8 @@ fn opens_few(a: &[u8], at: usize, c: usize, d: RoleSet, all: RoleSet) -> bool
     !later.shares(d) & (next != 0) & stand_apart(a, at, c)
 }
 
-// Whether the c words from number `at` on are good open sets, each with a role outside `later`, the union of the later ones: so it is not empty
-// and part of none of them.
+// Whether the c words from number `at` on are good open sets, each with a role outside `later`, the union of the later ones:
+// so it is not empty and part of none of them.
 fn opens_sure(a: &[u8], at: usize, c: usize, d: RoleSet, all: RoleSet) -> bool
     requires { ⌜ Spans (now a) (at + c) ⌝ }
     ensures { λ r. ⌜ r ≡ opensSure (all .bits) (d .bits) (take c (drop at (words (now (a .entry))))) ⌝ }

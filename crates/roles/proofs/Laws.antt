@@ -6,7 +6,7 @@ use mathlib.Core.Bool.{false}
 use native.Mathlib.Nat.{mod-eq-of-lt, lt-of-lt-of-le}
 use native.Mathlib.Omega.{arith}
 use lib.Bits.{and-le-r}
-use lib.Dec.{T}
+use lib.Dec.{T, leb, leb→le, le→leb}
 use lib.Pow.{pow-lt, pow-mono, ones-lt}
 use Rattle.roles.specs.Sets.{has, In, single, allBelow, below64, joined, common, without, shares, partOf}
 use Rattle.roles.proofs.Member.{T-ext, in-empty, in-single, in-allBelow, in-joined, in-common, in-without, set-ext, shares-law, partOf-law, below-law, in-below64}
@@ -87,6 +87,13 @@ pub partOf-allBelow : (n s : ℕ) → T (partOf s (allBelow n)) ↔ (s < 2 ^ n)
 partOf-allBelow n s = (
   (λ p. partOf-below n s (allBelow n) p (allBelow-below n)),
   λ h. partOf-law s (allBelow n) .1 (λ r i. in-allBelow n r .1 (below-law n s .0 h r i)),
+)
+
+-- and exactly when it is at most their set, as a number
+pub leb-allBelow : (n s : ℕ) → T (leb s (allBelow n)) ↔ (s < 2 ^ n)
+leb-allBelow n s = (
+  (λ h. let a = leb→le s (allBelow n) h in let b = allBelow-below n in omega arith),
+  λ h. le→leb s (allBelow n) (partOf-le s (allBelow n) (partOf-allBelow n s .1 h)),
 )
 
 -- ---- shares

@@ -12,11 +12,16 @@ use lib.Bits.{bitOr, or-add-and, and-le-l, and-le-r}
 use lib.Dec.{eqb}
 use lib.ListN.{length, getD, set, take, drop, replicate, length-replicate, length-take, length-drop}
 use lib.Seq.{sets, set-comm, getD-set-other, take-suc, take-add, drop-cons, getD-take, getD-drop, ext-getD}
-use Rattle.words.specs.Words.{Spans, allZero}
+use Rattle.words.specs.Words.{words, Spans, allZero}
+use Rattle.words.proofs.Laws.{length-words}
 
 -- bytes of the same length span the same words
 pub spans-again : {l l′ : List ℕ} {n m : ℕ} → Spans l n → length l′ ≡ length l → m ≤ n → Spans l′ m
 spans-again p e h = let w = p .whole in let b = p .enough in record { whole = rw e w; enough = omega arith }
+
+-- the words that bytes span are there
+pub spans-words : {l : List ℕ} {n : ℕ} → Spans l n → n ≤ length (words l)
+spans-words {l} p = let b = p .enough in omega (arith, length-words l)
 
 -- ---- what a run of stores leaves
 

@@ -16,12 +16,12 @@ use Rattle.rows.proofs.Padded.{stored⇒row}
 use Rattle.table.specs.Table.{rowsIn, Sound, foundFor}
 use Rattle.table.specs.declared.Found.the-variants.{Vacant}
 use Rattle.calls.specs.declared.Answer.the-variants.{Contradiction, Full, Forgotten}
-use Rattle.calls.specs.Calls.{stays, eventOn, eventOf}
+use Rattle.calls.specs.Calls.{stays, eventOf}
 use Rattle.calls.specs.Answers.{Gives}
 use Rattle.cache.specs.Fresh.{Fresh}
 use Rattle.roles.proofs.Member.{T-true}
 use Rattle.cache.proofs.Ladder.{gives, Entered, entered}
-use Rattle.cache.proofs.Writes.{row-none, area-kept, fitting-tidy, known-64, answered}
+use Rattle.cache.proofs.Writes.{event-none, area-kept, fitting-tidy, known-64, answered}
 use Rattle.cache.proofs.enter_new.Statement.{statement}
 use Rattle.cache.proofs.enter_new.Tie as tie
 
@@ -31,19 +31,16 @@ module _ (l : List ℕ) (s : Sound l) (p i : ℕ) (e : Happening) (f : foundFor 
   law : Entered l (stateOf l) p e blank (settle e blank)
   law = entered l (stateOf l) p e blank (T-true (known (stateOf l .roles) e) k)
 
-  at-blank : eventOf l p e ≡ eventOn l (stateOf l) p e blank
-  at-blank = ap (eventOn l (stateOf l) p e) (row-none l s p i f)
-
   against : settle e blank .answer ≡ 6 → Gives (eventOf l p e) Contradiction l
-  against a = gives (eventOf l p e) Contradiction l (at-blank ∙ law .contradiction a)
+  against a = gives (eventOf l p e) Contradiction l (event-none l s p i f e ∙ law .contradiction a)
 
   too-many : settle e blank .answer ≡ 7 → Gives (eventOf l p e) Full l
-  too-many a = gives (eventOf l p e) Full l (at-blank ∙ law .full a)
+  too-many a = gives (eventOf l p e) Full l (event-none l s p i f e ∙ law .full a)
 
   dropped : Bytes l → settle e blank .answer ≡ 8 → Gives (eventOf l p e) Forgotten l
   dropped bytes a =
       gives (eventOf l p e) Forgotten l
-      (at-blank ∙ law .forgets a ∙ ap (stays 8) (area-kept l s p i f (settle e blank .row) (ap isBlank (law .forgets-row a)) bytes))
+      (event-none l s p i f e ∙ law .forgets a ∙ ap (stays 8) (area-kept l s p i f (settle e blank .row) (ap isBlank (law .forgets-row a)) bytes))
 
   fresh : (w : value.Row) → w ≡ storedRow (settle e blank .row) → settle e blank .answer ≡ 0 → Fresh (stateOf l .roles) e w
   fresh w q a = record {

@@ -19,13 +19,13 @@ use Rattle.table.specs.Table.{rowsIn, Sound, foundFor}
 use Rattle.table.specs.declared.Found.the-variants.{Vacant}
 use Rattle.calls.specs.declared.Answer.{Answer}
 use Rattle.calls.specs.declared.Answer.the-variants.{Recorded}
-use Rattle.calls.specs.Calls.{Out, stays, isReply, eventOn, eventOf}
+use Rattle.calls.specs.Calls.{Out, stays, isReply, eventOf}
 use Rattle.calls.specs.Answers.{numberOf, Gives}
 use Rattle.cache.specs.Fresh.{Fresh}
 use Rattle.roles.proofs.Member.{T-true, T-false}
 use Rattle.cache.proofs.Places.{bytes-are}
 use Rattle.cache.proofs.Ladder.{gives, fitsIn-blank, fitsIn-room, fitsIn-none, placed, no-place}
-use Rattle.cache.proofs.Writes.{place-inside, row-none, state-new, area-kept, fitting-tidy}
+use Rattle.cache.proofs.Writes.{place-inside, row-none, event-none, state-new, area-kept, fitting-tidy}
 use Rattle.cache.proofs.put_new.Statement.{statement}
 use Rattle.cache.proofs.put_new.Tie as tie
 
@@ -41,9 +41,6 @@ module _ (l : List ℕ) (s : Sound l) (p i : ℕ) (e : Happening) (w : value.Row
   room : fits (step e blank) ≡ true
   room = T-true (fits (step e blank)) (h .room)
 
-  at-blank : eventOf l p e ≡ eventOn l (stateOf l) p e blank
-  at-blank = ap (eventOn l (stateOf l) p e) (row-none l s p i f)
-
   same : rowOf w ≡ step e blank
   same = stored⇒row w (step e blank) (h .row)
 
@@ -54,7 +51,7 @@ module _ (l : List ℕ) (s : Sound l) (p i : ℕ) (e : Happening) (w : value.Row
   nothing bytes b =
       let q = sym (ap isBlank same) ∙ b in
       gives (eventOf l p e) Recorded l
-      (at-blank ∙ placed l (stateOf l) p e blank knows clear (fitsIn-blank (stateOf l) p (step e blank) room q) ∙ ap (stays 0) (area-kept l s p i f (step e blank) q bytes))
+      (event-none l s p i f e ∙ placed l (stateOf l) p e blank knows clear (fitsIn-blank (stateOf l) p (step e blank) room q) ∙ ap (stays 0) (area-kept l s p i f (step e blank) q bytes))
 
   either : (b : Bool) → cond b (stays 7 l) (stays 8 l) ≡ stays (cond b 7 8) l
   either true = refl
@@ -63,7 +60,7 @@ module _ (l : List ℕ) (s : Sound l) (p i : ℕ) (e : Happening) (w : value.Row
   no-more : Bytes l → isBlank (rowOf w) ≡ false → mostRows ≤ length (rowsIn l) → (r : Answer) → numberOf r ≡ cond (isReply e) 7 8 → Gives (eventOf l p e) r l
   no-more bytes b m r q =
       gives (eventOf l p e) r l
-      (at-blank
+      (event-none l s p i f e
       ∙ no-place l (stateOf l) p e blank knows clear (fitsIn-none (stateOf l) p (step e blank) room empty (sym (ap isBlank same) ∙ b) m)
       ∙ ap (λ (o : Out). cond (isReply e) (stays 7 l) o) (ap (stays 8) (area-kept l s p i f blank refl bytes))
       ∙ either (isReply e)
@@ -72,7 +69,7 @@ module _ (l : List ℕ) (s : Sound l) (p i : ℕ) (e : Happening) (w : value.Row
   made : (m : List ℕ) → length (rowsIn l) < mostRows → m ≡ areaOf (withRow (stateOf l) p (rowOf w)) → Gives (eventOf l p e) Recorded m
   made m u q =
       gives (eventOf l p e) Recorded m
-      (at-blank
+      (event-none l s p i f e
       ∙ placed l (stateOf l) p e blank knows clear (fitsIn-room (stateOf l) p (step e blank) room u)
       ∙ ap (stays 0) (sym (q ∙ ap (λ (x : Row). areaOf (withRow (stateOf l) p x)) same)))
 

@@ -1,7 +1,7 @@
 -- `opens::has_part_of_two` meets its contract: the answer for the words not yet passed is the answer for all. Assumes nothing.
 use borrow.Author.Needs.{needs}
 use mathlib.Core.Path.{_≡_, refl, sym, ap, ap₂, _∙_}
-use mathlib.Core.Bool.{Bool, true, false, _||_}
+use mathlib.Core.Bool.{Bool, true, false, _||_, or-true}
 use mathlib.Core.List.{List}
 use Prim.Native.Nat.{ℕ, _+_, _-_, _<_}
 use native.Mathlib.Omega.{arith}
@@ -11,7 +11,7 @@ use Rattle.words.proofs.Laws.{length-words}
 use Rattle.words.proofs.Runs.{spans-again, run-word, run-long}
 use Rattle.roles.specs.Sets.{partOf}
 use Rattle.meaning.specs.Lists.{any}
-use Rattle.meaning.proofs.Walks.{any-hit, any-miss, any-end, or-true}
+use Rattle.meaning.proofs.Walks.{any-hit, any-miss, any-end}
 use Rattle.opens.specs.Parts.{firstPart}
 use Rattle.opens.proofs.SearchLaws.{partOfEither, search-most, part-of-joined, either-next, two-parts}
 use Rattle.opens.proofs.has_part_of_two.Statement.{statement}

@@ -2,13 +2,12 @@
 use borrow.Author.Needs.{needs}
 use mathlib.Core.Path.{_≡_, refl, ap, ap₂, _∙_}
 use mathlib.Core.Bool.{Bool, not, _&&_}
-use Prim.Native.Nat.{ℕ, _+_, _-_, _≤_, _<_}
+use Prim.Native.Nat.{ℕ, _-_, _<_}
 use native.Mathlib.Omega.{arith}
 use lib.Dec.{eqb}
-use lib.ListN.{length, take, drop}
+use lib.ListN.{take, drop}
 use Rattle.words.specs.Words.{words}
-use Rattle.words.proofs.Laws.{length-words}
-use Rattle.words.proofs.Runs.{spans-again, length-run}
+use Rattle.words.proofs.Runs.{spans-again, spans-words, length-run}
 use Rattle.roles.specs.Sets.{shares}
 use Rattle.opens.proofs.OpensLaws.{opens-fall, opens-compared}
 use Rattle.opens.proofs.PassLaws.{PassedFrom, passed-none, passed-one, passed-falls}
@@ -21,11 +20,8 @@ Inv-loop a at c d later₀ next₀ j₀ later next j = PassedFrom (words a) at c
 abbrev μ-loop : tie.MeasureT-loop
 μ-loop a at c d later₀ next₀ j₀ later next j = j
 
-long : (s : tie.Start Inv-loop μ-loop) → s .args .at + s .args .c ≤ length (words (s .args .a .now))
-long s = let h = s .pre .0 .enough in omega (arith, length-words (s .args .a .now))
-
 loop-holds : tie.Need-loop-holds Inv-loop μ-loop
-loop-holds c = let s = c .before .args in passed-none (words (s .a .now)) (s .at) (s .c) (s .all .bits) (long (c .before))
+loop-holds c = let s = c .before .args in passed-none (words (s .a .now)) (s .at) (s .c) (s .all .bits) (spans-words (c .before .pre .0))
 
 get-word-requires : tie.Need-get-word-requires Inv-loop μ-loop
 get-word-requires c κs =
@@ -39,7 +35,7 @@ returns c =
     let a = s .args in
     let o = c .before .before .get-word in
     opens-fall (a .all .bits) (a .d .bits) (at .j - 1) (take (a .c) (drop (a .at) (words (a .a .now))))
-    (passed-falls (words (a .a .now)) (a .at) (a .c) (a .all .bits) (long s) (at .j) (at .later .bits) (at .next) (o .result) (at .inv) (search needs) (o .ensures) (c .if1 .taken))
+    (passed-falls (words (a .a .now)) (a .at) (a .c) (a .all .bits) (spans-words (s .pre .0)) (at .j) (at .later .bits) (at .next) (o .result) (at .inv) (search needs) (o .ensures) (c .if1 .taken))
 
 loop-again : tie.Need-loop-again Inv-loop μ-loop
 loop-again c =
@@ -47,7 +43,7 @@ loop-again c =
     let s = c .before .before .before .before .before .before .before in
     let a = s .args in
     let o = c .before .before .before .get-word in
-    passed-one (words (a .a .now)) (a .at) (a .c) (a .all .bits) (long s) (at .j) (at .later .bits) (at .next) (o .result) (at .inv) (search needs) (o .ensures)
+    passed-one (words (a .a .now)) (a .at) (a .c) (a .all .bits) (spans-words (s .pre .0)) (at .j) (at .later .bits) (at .next) (o .result) (at .inv) (search needs) (o .ensures)
     (c .joined .ensures) (search needs)
 
 returns-2 : tie.Need-returns-2 Inv-loop μ-loop
@@ -62,7 +58,7 @@ returns-2 c =
     ap₂ _&&_
     (ap₂ (λ (x : Bool) (y : ℕ). not x && not (eqb y 0)) (c .before .shares .ensures ∙ ap (λ (x : ℕ). shares x (a .d .bits)) (rw end at (at .inv .1 .union))) (rw end at (at .inv .1 .first)))
     (c .stand-apart .ensures)
-    ∙ opens-compared (a .all .bits) (a .d .bits) l (omega (arith, length-run ws (a .at) (a .c) (long s))) (rw end at (at .inv .1 .climbs))
+    ∙ opens-compared (a .all .bits) (a .d .bits) l (omega (arith, length-run ws (a .at) (a .c) (spans-words (s .pre .0)))) (rw end at (at .inv .1 .climbs))
 
 pub opens-few-spec : {M : Type 1} → statement M
 opens-few-spec =

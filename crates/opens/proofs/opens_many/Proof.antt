@@ -8,10 +8,9 @@ use Prim.Native.Nat.{ℕ, _+_, _-_, _≤_, _<_}
 use native.Mathlib.Nat.{add-zero}
 use native.Mathlib.Omega.{arith}
 use lib.Dec.{eqb, leb}
-use lib.ListN.{length, getD, take, drop}
+use lib.ListN.{getD, take, drop}
 use Rattle.words.specs.Words.{words}
-use Rattle.words.proofs.Laws.{length-words}
-use Rattle.words.proofs.Runs.{spans-again, run-word, length-run}
+use Rattle.words.proofs.Runs.{spans-again, spans-words, run-word, length-run}
 use Rattle.roles.specs.Sets.{shares, joined}
 use Rattle.opens.specs.Parts.{standApart}
 use Rattle.opens.proofs.OpensLaws.{apart-first, apart-fewer, opens-fall, opens-touch}
@@ -26,11 +25,8 @@ Inv-loop a at c d later₀ next₀ j₀ later next j =
 abbrev μ-loop : tie.MeasureT-loop
 μ-loop a at c d later₀ next₀ j₀ later next j = j
 
-long : (s : tie.Start Inv-loop μ-loop) → s .args .at + s .args .c ≤ length (words (s .args .a .now))
-long s = let h = s .pre .0 .enough in omega (arith, length-words (s .args .a .now))
-
 loop-holds : tie.Need-loop-holds Inv-loop μ-loop
-loop-holds c = let s = c .before .args in (passed-none (words (s .a .now)) (s .at) (s .c) (s .all .bits) (long (c .before)), refl)
+loop-holds c = let s = c .before .args in (passed-none (words (s .a .now)) (s .at) (s .c) (s .all .bits) (spans-words (c .before .pre .0)), refl)
 
 get-word-requires : tie.Need-get-word-requires Inv-loop μ-loop
 get-word-requires c κs =
@@ -49,7 +45,7 @@ returns c =
     let a = s .args in
     let t = c .before .before .before .get-word in
     opens-fall (a .all .bits) (a .d .bits) (at .j - 1) (take (a .c) (drop (a .at) (words (a .a .now))))
-    (passed-falls (words (a .a .now)) (a .at) (a .c) (a .all .bits) (long s) (at .j) (at .later .bits) (at .next) (t .result) (at .inv .0) (search needs) (t .ensures) (c .if1 .taken))
+    (passed-falls (words (a .a .now)) (a .at) (a .c) (a .all .bits) (spans-words (s .pre .0)) (at .j) (at .later .bits) (at .next) (t .result) (at .inv .0) (search needs) (t .ensures) (c .if1 .taken))
 
 returns-2 : tie.Need-returns-2 Inv-loop μ-loop
 returns-2 c =
@@ -59,7 +55,7 @@ returns-2 c =
     let t = c .before .before .before .before .before .before .get-word in
     let o = c .before .before .before .before .before .get-word2 in
     opens-fall (a .all .bits) (a .d .bits) (at .j - 1 - 1) (take (a .c) (drop (a .at) (words (a .a .now))))
-    (second-falls (words (a .a .now)) (a .at) (a .c) (a .all .bits) (long s) (at .j) (at .later .bits) (at .next) (t .result) (o .result) (at .inv .0) (search needs) (t .ensures) (o .ensures)
+    (second-falls (words (a .a .now)) (a .at) (a .c) (a .all .bits) (spans-words (s .pre .0)) (at .j) (at .later .bits) (at .next) (t .result) (o .result) (at .inv .0) (search needs) (t .ensures) (o .ensures)
     (search needs) (c .if2 .taken))
 
 -- the words of two sets, numbered as the search does
@@ -90,7 +86,7 @@ held c =
     let o = c .before .before .before .before .before .before .before .before .get-word2 in
     let t = c .before .before .before .before .before .before .before .before .before .get-word in
     let q = at .inv .0 .0 in
-    let w = long s in
+    let w = spans-words (s .pre .0) in
     let both = two-words ws (s .args .at) (at .j) (o .result) (t .result) (search needs) (o .ensures) (t .ensures) in
     sym (at .inv .1) ∙ apart-two ws (s .args .at) (at .j) (o .result) (t .result) (search needs) (omega arith) (both .0) (both .1) (c .has-part-of-two .ensures)
 
@@ -113,7 +109,7 @@ loop-again c =
     let t = c .before .before .before .before .before .before .before .before .before .before .get-word in
     let o = c .before .before .before .before .before .before .before .before .before .get-word2 in
     let before = standApart (take (at .j - 2) (drop (a .at) ws)) in (
-      passed-two ws (a .at) (a .c) (a .all .bits) (long s) (at .j) (at .later .bits) (at .next) (t .result) (o .result) (at .inv .0) (search needs) (t .ensures) (o .ensures)
+      passed-two ws (a .at) (a .c) (a .all .bits) (spans-words (s .pre .0)) (at .j) (at .later .bits) (at .next) (t .result) (o .result) (at .inv .0) (search needs) (t .ensures) (o .ensures)
           (search needs) (c .before .before .joined2 .ensures ∙ ap (λ (x : ℕ). joined x (at .later .bits)) (c .before .before .before .joined .ensures)) (search needs),
       sym (held (c .before) ∙ ap (λ (x : Bool). before && not x) (c .if3 .left) ∙ and-true before),
     )
@@ -135,8 +131,8 @@ returns-4 c =
     let left : at .j ≤ 1 = omega arith in
     ap (λ (x : Bool). (leb (o .result) (at .next) && not x) && not (eqb (o .result) 0)) (c .before .shares .ensures ∙ ap (λ (x : ℕ). shares x (a .d .bits)) (c .before .before .joined3 .ensures))
     ∙ passed-all (a .all .bits) (a .d .bits) (take (a .c) (drop (a .at) ws)) (o .result) (at .j) (at .later .bits) (at .next)
-    (omega (arith, length-run ws (a .at) (a .c) (long s)))
-    (o .ensures ∙ ap (λ (i : ℕ). getD ws i 0) (sym (add-zero (a .at))) ∙ sym (run-word ws (a .at) (a .c) 0 some (long s)))
+    (omega (arith, length-run ws (a .at) (a .c) (spans-words (s .pre .0))))
+    (o .ensures ∙ ap (λ (i : ℕ). getD ws i 0) (sym (add-zero (a .at))) ∙ sym (run-word ws (a .at) (a .c) 0 some (spans-words (s .pre .0))))
     (sym (at .inv .1) ∙ apart-fewer (at .j) 1 (drop (a .at) ws) left (apart-first (drop (a .at) ws)))
     left (at .inv .0 .1)
 

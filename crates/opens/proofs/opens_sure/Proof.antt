@@ -2,12 +2,11 @@
 use borrow.Author.Needs.{needs}
 use mathlib.Core.Path.{_≡_, refl, ap, _∙_}
 use mathlib.Core.Bool.{true, not}
-use Prim.Native.Nat.{ℕ, _+_, _-_, _≤_}
+use Prim.Native.Nat.{ℕ, _-_}
 use native.Mathlib.Omega.{arith}
-use lib.ListN.{length, take, drop}
+use lib.ListN.{take, drop}
 use Rattle.words.specs.Words.{words}
-use Rattle.words.proofs.Laws.{length-words}
-use Rattle.words.proofs.Runs.{spans-again, run-before}
+use Rattle.words.proofs.Runs.{spans-again, spans-words, run-before}
 use Rattle.roles.specs.Sets.{shares}
 use Rattle.opens.specs.Parts.{eachOutside}
 use Rattle.opens.proofs.OpensLaws.{outside-more, outside-ends, sure-falls, sure-ends, sure-made}
@@ -22,13 +21,10 @@ Inv-loop a at c d later₀ next₀ j₀ later next j =
 abbrev μ-loop : tie.MeasureT-loop
 μ-loop a at c d later₀ next₀ j₀ later next j = j
 
-long : (s : tie.Start Inv-loop μ-loop) → s .args .at + s .args .c ≤ length (words (s .args .a .now))
-long s = let h = s .pre .enough in omega (arith, length-words (s .args .a .now))
-
 loop-holds : tie.Need-loop-holds Inv-loop μ-loop
 loop-holds c =
     let s = c .before .args in
-    (passed-none (words (s .a .now)) (s .at) (s .c) (s .all .bits) (long (c .before)), outside-none (words (s .a .now)) (s .at) (s .c) (s .all .bits) (long (c .before)))
+    (passed-none (words (s .a .now)) (s .at) (s .c) (s .all .bits) (spans-words (c .before .pre)), outside-none (words (s .a .now)) (s .at) (s .c) (s .all .bits) (spans-words (c .before .pre)))
 
 get-word-requires : tie.Need-get-word-requires Inv-loop μ-loop
 get-word-requires c κs =
@@ -42,7 +38,7 @@ returns c =
     let a = s .args in
     let o = c .before .before .get-word in
     sure-falls (a .all .bits) (a .d .bits) (at .j - 1) (take (a .c) (drop (a .at) (words (a .a .now))))
-    (passed-falls (words (a .a .now)) (a .at) (a .c) (a .all .bits) (long s) (at .j) (at .later .bits) (at .next) (o .result) (at .inv .0) (search needs) (o .ensures) (c .if1 .taken))
+    (passed-falls (words (a .a .now)) (a .at) (a .c) (a .all .bits) (spans-words (s .pre)) (at .j) (at .later .bits) (at .next) (o .result) (at .inv .0) (search needs) (o .ensures) (c .if1 .taken))
 
 returns-2 : tie.Need-returns-2 Inv-loop μ-loop
 returns-2 c =
@@ -53,7 +49,7 @@ returns-2 c =
     let o = c .before .before .before .before .before .before .get-word in
     let both = c .before .before .before .joined in
     sure-ends (a .all .bits) (a .d .bits) (at .j - 1) l
-    (ap eachOutside (run-before (words (a .a .now)) (a .at) (a .c) (at .j) (o .result) (search needs) (at .inv .0 .0) (long s) (o .ensures))
+    (ap eachOutside (run-before (words (a .a .now)) (a .at) (a .c) (at .j) (o .result) (search needs) (at .inv .0 .0) (spans-words (s .pre)) (o .ensures))
     ∙ outside-ends (o .result) (drop (at .j) l) (at .later .bits) (both .result .bits) (at .inv .0 .1 .union) (both .ensures) (c .if2 .taken))
 
 loop-again : tie.Need-loop-again Inv-loop μ-loop
@@ -64,9 +60,9 @@ loop-again c =
     let l = take (a .c) (drop (a .at) (words (a .a .now))) in
     let o = c .before .before .before .before .before .before .get-word in
     let both = c .before .before .before .joined in (
-      passed-one (words (a .a .now)) (a .at) (a .c) (a .all .bits) (long s) (at .j) (at .later .bits) (at .next) (o .result) (at .inv .0) (search needs) (o .ensures)
+      passed-one (words (a .a .now)) (a .at) (a .c) (a .all .bits) (spans-words (s .pre)) (at .j) (at .later .bits) (at .next) (o .result) (at .inv .0) (search needs) (o .ensures)
           (both .ensures) (search needs),
-      ap eachOutside (run-before (words (a .a .now)) (a .at) (a .c) (at .j) (o .result) (search needs) (at .inv .0 .0) (long s) (o .ensures))
+      ap eachOutside (run-before (words (a .a .now)) (a .at) (a .c) (at .j) (o .result) (search needs) (at .inv .0 .0) (spans-words (s .pre)) (o .ensures))
           ∙ outside-more (o .result) (drop (at .j) l) (at .later .bits) (both .result .bits) (at .inv .0 .1 .union) (both .ensures) (c .if2 .left)
           ∙ at .inv .1,
     )
