@@ -4,14 +4,14 @@ use mathlib.Core.Bool.{Bool, true, false, _&&_, and-true}
 use mathlib.Core.List.{List, [], _∷_, _++_}
 use Prim.Native.Nat.{ℕ, zero, suc, _+_, _-_, _≤_, _<_}
 use native.Mathlib.Numerals.{add-one}
-use native.Mathlib.Nat.{add-zero}
+use native.Mathlib.Nat.{add-zero, not-suc-le-zero, le-of-suc-le-suc}
 use native.Mathlib.Decide.{ℕ-discrete}
 use native.Mathlib.Omega.{arith}
 use borrow.Author.Tests.{eq-eqb, ne-eqb}
 use lib.Bits.{bitOr, or-add-and, and-le-l, and-le-r}
 use lib.Dec.{eqb}
-use lib.ListN.{length, getD, set, take, drop, replicate, length-replicate, length-take, length-drop}
-use lib.Seq.{sets, set-comm, getD-set-other, take-suc, take-add, drop-cons, getD-take, getD-drop, ext-getD}
+use lib.ListN.{length, getD, set, take, drop, replicate, length-replicate, length-set, length-take, length-drop}
+use lib.Seq.{sets, set-comm, getD-set-same, getD-set-other, take-suc, take-add, drop-cons, getD-take, getD-drop, ext-getD}
 use Rattle.words.specs.Words.{words, Spans, allZero}
 use Rattle.words.proofs.Laws.{length-words}
 
@@ -32,6 +32,16 @@ getD-sets-below l i (v ∷ vs) k h = getD-sets-below (set l i v) (suc i) vs k (o
 pub getD-sets-behind : (l : List ℕ) (i : ℕ) (vs : List ℕ) (k : ℕ) → i + length vs ≤ k → getD (sets l i vs) k 0 ≡ getD l k 0
 getD-sets-behind l i [] k h = refl
 getD-sets-behind l i (v ∷ vs) k h = getD-sets-behind (set l i v) (suc i) vs k (omega arith) ∙ getD-set-other l i k v 0 (λ e. omega arith)
+
+pub getD-sets-in : (l : List ℕ) (i : ℕ) (vs : List ℕ) (k : ℕ) → i + length vs ≤ length l → k < length vs → getD (sets l i vs) (i + k) 0 ≡ getD vs k 0
+getD-sets-in l i [] k b h = absurd (not-suc-le-zero h)
+getD-sets-in l i (v ∷ vs) zero b h =
+    ap (λ (j : ℕ). getD (sets (set l i v) (suc i) vs) j 0) (add-zero i)
+    ∙ getD-sets-below (set l i v) (suc i) vs i (omega arith)
+    ∙ getD-set-same l i v 0 (omega arith)
+getD-sets-in l i (v ∷ vs) (suc k) b h =
+    ap (λ (j : ℕ). getD (sets (set l i v) (suc i) vs) j 0) (let e : i + suc k ≡ suc i + k = omega arith in e)
+    ∙ getD-sets-in (set l i v) (suc i) vs k (omega (arith, length-set l i v)) (le-of-suc-le-suc h)
 
 -- one more at the end
 pub sets-end : (l : List ℕ) (i : ℕ) (vs : List ℕ) (v : ℕ) → set (sets l i vs) (i + length vs) v ≡ sets l i (vs ++ v ∷ [])
