@@ -38,6 +38,12 @@ use Rattle.opens.specs.Opens.{allOf, placesGood}
 abbrev pub mostRows : ℕ
 mostRows = 128
 
+abbrev pub roleCountAt : ℕ
+roleCountAt = 0
+
+abbrev pub rowsUsedAt : ℕ
+rowsUsedAt = 1
+
 abbrev pub contentWords : ℕ
 contentWords = 2
 
@@ -59,10 +65,10 @@ areaBytes = areaWords * 8
 -- ---- where things stand
 
 abbrev pub roleCount : List ℕ → ℕ
-roleCount ws = getD ws 0 0
+roleCount ws = getD ws roleCountAt 0
 
 abbrev pub rowsUsed : List ℕ → ℕ
-rowsUsed ws = getD ws 1 0
+rowsUsed ws = getD ws rowsUsedAt 0
 
 abbrev pub contents : List ℕ → List ℕ
 contents ws = take (mostRows * contentWords) (drop contentsAt ws)

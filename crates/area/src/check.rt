@@ -5,6 +5,8 @@ use crate::BODY_WORDS;
 use crate::CONTENT_WORDS;
 use crate::CONTENTS_AT;
 use crate::MOST_ROWS;
+use crate::ROLE_COUNT_AT;
+use crate::ROWS_USED_AT;
 use meaning::LAST_PERMISSION;
 use meaning::MOST_OPENS;
 use opens::places_good;
@@ -94,8 +96,8 @@ pub fn check(a: &[u8]) -> bool
     if a.len() != AREA_BYTES {
         return false;
     }
-    let n = get_word(a, 0);
-    let used = get_word(a, 1);
+    let n = get_word(a, ROLE_COUNT_AT);
+    let used = get_word(a, ROWS_USED_AT);
     if n < 1 {
         return false;
     }

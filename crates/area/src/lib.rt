@@ -5,7 +5,12 @@ use meaning::MOST_OPENS;
 
 pub const MOST_ROWS: usize = 128;
 
-// In words: an entry of the contents, a body, where the contents and the bodies start, the area.
+// In words: where the role count and the number of rows used stand, an entry of the contents, a body, where the contents
+// and the bodies start, the area.
+pub const ROLE_COUNT_AT: usize = 0;
+
+pub const ROWS_USED_AT: usize = 1;
+
 pub const CONTENT_WORDS: usize = 2;
 
 pub const BODY_WORDS: usize = 1 + MOST_OPENS;

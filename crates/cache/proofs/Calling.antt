@@ -6,9 +6,8 @@ use Prim.Native.Nat.{ℕ, _≤_}
 use native.Mathlib.Decide.{decLt}
 use native.Mathlib.Omega.{arith}
 use lib.Dec.{T, eqb, ltb, leb, ltb→lt, lt→ltb}
-use lib.ListN.{length, getD}
+use lib.ListN.{length}
 use borrow.Author.Tests.{eq-eqb, ne-eqb, le-leb, lt-leb, lt-ltb, le-ltb}
-use Rattle.words.specs.Words.{words, Spans}
 use Rattle.roles.specs.Sets.{single, allBelow, partOf, mostRoles}
 use Rattle.roles.proofs.Member.{T-ext}
 use Rattle.roles.proofs.Laws.{partOf-allBelow, single-below, below-single}
@@ -19,7 +18,7 @@ use Rattle.rows.specs.Stored.{Tidy, rowOf, storedRow}
 use Rattle.rows.specs.declared.Row.{Row}
 use Rattle.rows.proofs.Padded.{stored⇒tidy, stored⇒row}
 use Rattle.area.specs.Layout.{areaBytes, goodBytes}
-use Rattle.area.specs.State.{rowFor, heldBy, stateOf, areaOf}
+use Rattle.area.specs.State.{rowFor, stateOf, areaOf}
 use Rattle.area.proofs.RowLaws.{rowFor-few}
 use Rattle.area.proofs.Bytes.{good-state}
 use Rattle.table.specs.Table.{rowsIn, Sound}
@@ -59,18 +58,11 @@ is-valid p h k = ap₂ (λ (a b : Bool). a && b) (le-leb 1 p (omega arith)) (le-
 pub not-valid : (p : ℕ) → p ≡ 0 → valid p ≡ false
 not-valid p h = ap (λ (k : ℕ). valid k) h
 
-pub first-word : (l : List ℕ) → length l ≡ areaBytes → Spans l 1
-first-word l h = record { whole = omega arith; enough = omega arith }
+pub roles-few : (l : List ℕ) (n : ℕ) → T (goodBytes l) → n ≡ stateOf l .roles → n ≤ mostRoles
+roles-few l n t e = subst⁻¹ (λ (k : ℕ). k ≤ mostRoles) e (good-state l t .most-roles)
 
-pub roles-are : (l : List ℕ) → getD (words l) 0 0 ≡ stateOf l .roles
-unfolding stateOf heldBy
-roles-are l = refl
-
-pub roles-few : (l : List ℕ) (n : ℕ) → T (goodBytes l) → n ≡ getD (words l) 0 0 → n ≤ mostRoles
-roles-few l n t e = subst⁻¹ (λ (k : ℕ). k ≤ mostRoles) (e ∙ roles-are l) (good-state l t .most-roles)
-
-pub set-known-at : (l : List ℕ) (n s : ℕ) (b t : Bool) → n ≡ getD (words l) 0 0 → b ≡ partOf s (allBelow n) → b ≡ t → partOf s (allBelow (stateOf l .roles)) ≡ t
-set-known-at l n s b t q h k = sym (ap (λ (x : ℕ). partOf s (allBelow x)) (q ∙ roles-are l)) ∙ sym h ∙ k
+pub set-known-at : (l : List ℕ) (n s : ℕ) (b t : Bool) → n ≡ stateOf l .roles → b ≡ partOf s (allBelow n) → b ≡ t → partOf s (allBelow (stateOf l .roles)) ≡ t
+set-known-at l n s b t q h k = sym (ap (λ (x : ℕ). partOf s (allBelow x)) q) ∙ sym h ∙ k
 
 -- ---- a decision
 

@@ -12,7 +12,7 @@ use Rattle.meaning.specs.Rows.{blank}
 use Rattle.area.specs.Layout.{goodBytes}
 use Rattle.area.specs.State.{withRow, stateOf, areaOf}
 use Rattle.calls.specs.declared.Answer.{Answer}
-use Rattle.calls.specs.declared.Answer.the-variants.{Recorded, BadArea, NoPermission, BadNumber}
+use Rattle.calls.specs.declared.Answer.the-variants.{Recorded, BadArea, NoPermission, BadVerdict}
 use Rattle.calls.specs.Calls.{Out, stays, valid, eventOf, replied, updated, onArea, replyOf, updateOf, forgetOf}
 use Rattle.calls.specs.Answers.{Gives}
 use Rattle.cache.proofs.Ladder.{gives}
@@ -55,9 +55,9 @@ module _ (l : List ℕ) (p v : ℕ) (e : Happening) (o : Out) (q : o ≡ eventFo
   unfolding eventFor
   event-3 h k = gives o NoPermission l (q ∙ on-none l p _ h k)
 
-  pub event-5 : goodBytes l ≡ true → valid p ≡ true → 1 < v → Gives o BadNumber l
+  pub event-5 : goodBytes l ≡ true → valid p ≡ true → 1 < v → Gives o BadVerdict l
   unfolding eventFor
-  event-5 h k u = gives o BadNumber l (q ∙ on-good l p _ h k ∙ ap (λ (b : Bool). cond (not b) (stays 5 l) (eventOf l p e)) (lt-leb v 1 u))
+  event-5 h k u = gives o BadVerdict l (q ∙ on-good l p _ h k ∙ ap (λ (b : Bool). cond (not b) (stays 5 l) (eventOf l p e)) (lt-leb v 1 u))
 
   pub event-go : (f : Happening) (r : Answer) (m : List ℕ) → goodBytes l ≡ true → valid p ≡ true → v ≤ 1 → e ≡ f → Gives (eventOf l p f) r m → Gives o r m
   unfolding eventFor

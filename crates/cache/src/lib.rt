@@ -17,9 +17,9 @@ use table::find;
 use table::insert_at;
 use table::put_at;
 use table::remove_at;
+use table::role_count;
 use table::row_at;
 use table::rows_used;
-use words::get_word;
 ghost use mathlib.Core.Path.{_≡_};
 ghost use mathlib.Core.Bool.{cond};
 ghost use Prim.Native.Nat.{_≤_};
@@ -102,7 +102,7 @@ pub fn decide(a: &[u8], p: u32, s: u64) -> Answer
         return Answer::NoPermission;
     }
     let session = RoleSet { bits: s };
-    if !set_known(session, get_word(a, 0)) {
+    if !set_known(session, role_count(a)) {
         return Answer::UnknownRole;
     }
     judge(row_for(a, p), session)
@@ -194,7 +194,7 @@ fn enter(a: &mut [u8], event: Event) -> Answer
 {
     let p = event.permission;
     let e = event.happening;
-    if !is_known(e, get_word(a, 0)) {
+    if !is_known(e, role_count(a)) {
         return Answer::UnknownRole;
     }
     match find(a, p) {
@@ -214,7 +214,7 @@ pub fn reply(a: &mut [u8], p: u32, verdict: u64, s: u64) -> Answer
         return Answer::NoPermission;
     }
     if 1 < verdict {
-        return Answer::BadNumber;
+        return Answer::BadVerdict;
     }
     let session = RoleSet { bits: s };
     if verdict == 1 {
@@ -246,7 +246,7 @@ pub fn update(a: &mut [u8], p: u32, kind: u64, role: u64) -> Answer
         return Answer::NoPermission;
     }
     if 1 < kind {
-        return Answer::BadNumber;
+        return Answer::BadVerdict;
     }
     if kind == 1 {
         return enter(

@@ -14,10 +14,10 @@ use Rattle.area.specs.State.{State, Entry, rowFor, areaOf}
 use Rattle.area.proofs.RowLaws.{rows-ext}
 use Rattle.area.proofs.Theorems.{one-state}
 use Rattle.calls.specs.Calls.{valid}
-use Rattle.calls.specs.Histories.{calls, opened, history}
+use Rattle.calls.specs.Histories.{calls, opened, history, eventsOf}
 use Rattle.calls.specs.Demands as demands
 use Rattle.calls.proofs.Invariant.{history-holds}
-use Rattle.calls.proofs.Streams.{eventsOf, rearranged-possible, stream-trail}
+use Rattle.calls.proofs.Streams.{swapped-possible, stream-trail}
 
 is-valid : (p : ℕ) → 1 ≤ p → p ≤ lastPermission → T (valid p)
 is-valid p a b = T-and (leb 1 p) (leb p lastPermission) .1 (subst⁻¹ T (le-leb 1 p a) tt, subst⁻¹ T (le-leb p lastPermission b) tt)
@@ -54,5 +54,5 @@ reordered l m n es fs o o′ r a b =
       refl,
       λ q v h.
           subst⁻¹ (λ (t : List Happening). Possible n t h ↔ Possible n (history m n (calls fs) .trail q) h) (stream-trail es (opened l n) q a)
-          (subst⁻¹ (λ (t : List Happening). Possible n (eventsOf q es) h ↔ Possible n t h) (stream-trail fs (opened m n) q b) (rearranged-possible r n q h)),
+          (subst⁻¹ (λ (t : List Happening). Possible n (eventsOf q es) h ↔ Possible n t h) (stream-trail fs (opened m n) q b) (swapped-possible (r q) n h)),
     )

@@ -6,7 +6,7 @@ use mathlib.Core.List.{List}
 use Prim.Native.Nat.{ℕ}
 use Rattle.calls.specs.Calls.{Out}
 use Rattle.calls.specs.declared.Answer.{Answer}
-use Rattle.calls.specs.declared.Answer.the-variants.{Recorded, BadArea, BadRoleCount, NoPermission, UnknownRole, BadNumber, Contradiction, Full, Forgotten, Deny, Allow, Undecided}
+use Rattle.calls.specs.declared.Answer.the-variants.{Recorded, BadArea, BadRoleCount, NoPermission, UnknownRole, BadVerdict, Contradiction, Full, Forgotten, Deny, Allow, Undecided}
 
 abbrev pub numberOf : Answer → ℕ
 numberOf Recorded = 0
@@ -14,7 +14,7 @@ numberOf BadArea = 1
 numberOf BadRoleCount = 2
 numberOf NoPermission = 3
 numberOf UnknownRole = 4
-numberOf BadNumber = 5
+numberOf BadVerdict = 5
 numberOf Contradiction = 6
 numberOf Full = 7
 numberOf Forgotten = 8

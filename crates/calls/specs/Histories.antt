@@ -4,13 +4,13 @@
 --     History, history       the bytes of the area now, and the trail of each permission, after any calls from an opening
 --     next c h               the history h after the call c
 --     callOf, calls          the call by which an event comes in; those of a stream of events
---     Free e f               they may change places: about different permissions, or both replies
---     Rearranged             the same events in another order, where only such neighbours change places
+--     eventsOf p es          the events of a stream about p
+--     Swapped                the same events of one permission, where neighbouring replies have changed places
+--     Rearranged             two streams with the same events of each permission, up to such changes
 --     AllRecorded            every event of a stream is answered 0
 use mathlib.Core.Path.{_≡_}
 use mathlib.Core.Bool.{cond}
 use mathlib.Core.List.{List, [], _∷_, _++_}
-use mathlib.Core.Logic.{_≢_, _⊎_}
 use Prim.Native.Nat.{ℕ}
 use lib.Dec.{eqb}
 use Rattle.meaning.specs.declared.Event.{Event}
@@ -73,14 +73,20 @@ abbrev pub calls : List Event → List Call
 calls [] = []
 calls (e ∷ es) = callOf e ∷ calls es
 
-abbrev pub Free : Event → Event → Type 0
-Free e f = (e .permission ≢ f .permission) ⊎ (Reply (e .happening) × Reply (f .happening))
+-- the events of a stream about p
+unfoldable pub eventsOf : ℕ → List Event → List Happening
+eventsOf p [] = []
+eventsOf p (e ∷ es) = cond (eqb (e .permission) p) (e .happening ∷ eventsOf p es) (eventsOf p es)
 
-pub data Rearranged : List Event → List Event → Type 0 where
-  same : {es : List Event} → Rearranged es es
-  first : {es fs : List Event} (e : Event) → Rearranged es fs → Rearranged (e ∷ es) (e ∷ fs)
-  swap : {es : List Event} (e f : Event) → Free e f → Rearranged (e ∷ f ∷ es) (f ∷ e ∷ es)
-  further : {es fs gs : List Event} → Rearranged es fs → Rearranged fs gs → Rearranged es gs
+-- only neighbours that are both replies change places: no reply crosses an update, and updates keep their order
+pub data Swapped : List Happening → List Happening → Type 0 where
+  same : {es : List Happening} → Swapped es es
+  first : {es fs : List Happening} (e : Happening) → Swapped es fs → Swapped (e ∷ es) (e ∷ fs)
+  swap : {es : List Happening} (e f : Happening) → Reply e → Reply f → Swapped (e ∷ f ∷ es) (f ∷ e ∷ es)
+  further : {es fs gs : List Happening} → Swapped es fs → Swapped fs gs → Swapped es gs
+
+abbrev pub Rearranged : List Event → List Event → Type 0
+Rearranged es fs = (p : ℕ) → Swapped (eventsOf p es) (eventsOf p fs)
 
 abbrev pub AllRecorded : List Event → List ℕ → Type 0
 AllRecorded [] l = Unit {0}

@@ -1,5 +1,5 @@
 -- What the words of a good area say of its rows. Assumes nothing.
-use mathlib.Core.Path.{_≡_, sym, ap, _∙_}
+use mathlib.Core.Path.{_≡_, refl, sym, ap, _∙_}
 use mathlib.Core.List.{List, [], _∷_, _++_, append-assoc}
 use Prim.Native.Nat.{ℕ, _+_, _-_, _*_, _≤_, _<_}
 use native.Mathlib.Omega.{arith}
@@ -8,8 +8,8 @@ use lib.ListN.{length, getD, take, drop, replicate, replicate-append-replicate}
 use lib.Seq.{take-append-add}
 use Rattle.words.specs.Words.{words}
 use Rattle.meaning.specs.Rows.{mostOpens}
-use Rattle.area.specs.Layout.{mostRows, contentWords, bodyWords, contentsAt, bodiesAt, contentAt, bodyAt, goodBytes}
-use Rattle.area.specs.State.{pad, content, body, wordsOf, stateOf}
+use Rattle.area.specs.Layout.{mostRows, roleCountAt, rowsUsedAt, contentWords, bodyWords, contentsAt, bodiesAt, rowsUsed, contentAt, bodyAt, goodBytes}
+use Rattle.area.specs.State.{pad, content, body, wordsOf, heldBy, stateOf}
 use Rattle.area.proofs.Cells.{take-zeros, pad-short}
 use Rattle.area.proofs.Rules.{few-opens}
 use Rattle.area.proofs.Held.{content-is, body-is, used-is}
@@ -26,12 +26,16 @@ sound l t = record { good = t; size = good-length l t; few = good-state l t .mos
 
 -- ---- a good area's words
 
+pub roles-read : (l : List ℕ) → getD (words l) roleCountAt 0 ≡ stateOf l .roles
+unfolding stateOf heldBy
+roles-read l = refl
+
 module _ (l : List ℕ) (s : Sound l) where
   is : words l ≡ wordsOf (stateOf l)
   is = good-words l (s .good)
 
-  pub used-read : getD (words l) 1 0 ≡ length (rowsIn l)
-  used-read = ap (λ (v : List ℕ). getD v 1 0) is ∙ used-is (stateOf l)
+  pub used-read : getD (words l) rowsUsedAt 0 ≡ length (rowsIn l)
+  used-read = ap rowsUsed is ∙ used-is (stateOf l)
 
   module _ (i : ℕ) (h : i < length (rowsIn l)) where
     few : i < mostRows

@@ -1,12 +1,12 @@
 -- A run of words copied is the run of its bytes copied. Assumes nothing.
-use mathlib.Core.Path.{_≡_, sym, ap, _∙_}
+use mathlib.Core.Path.{_≡_, sym, _∙_}
 use mathlib.Core.List.{List}
-use Prim.Native.Nat.{ℕ, _+_, _-_, _*_, _/_, _%_, _≤_, _<_}
+use Prim.Native.Nat.{ℕ, _+_, _-_, _*_, _≤_, _<_}
 use native.Mathlib.Decide.{decLe}
 use native.Mathlib.Omega.{arith}
 use lib.ListN.{length, getD, take, drop}
 use lib.Seq.{sets, length-sets, ext-getD}
-use Rattle.words.specs.Words.{wordAt, words}
+use Rattle.words.specs.Words.{words}
 use Rattle.words.proofs.Laws.{length-words, word-at, number-same}
 use Rattle.words.proofs.Runs.{getD-sets-below, getD-sets-in, getD-sets-behind, length-run, run-word}
 

@@ -5,9 +5,8 @@ use mathlib.Core.Path.{_≡_, sym, _∙_}
 use mathlib.Core.Bool.{true}
 use native.Mathlib.Omega.{arith}
 use Rattle.area.specs.Layout.{goodBytes}
-use Rattle.area.proofs.Bytes.{good-length}
 use Rattle.table.proofs.RowWords.{sound}
-use Rattle.cache.proofs.Calling.{row-tidy, row-decides, is-true, is-valid, not-valid, first-word, roles-few, set-known-at, decide-1, decide-3, decide-4, decide-go}
+use Rattle.cache.proofs.Calling.{row-tidy, row-decides, is-true, is-valid, not-valid, roles-few, set-known-at, decide-1, decide-3, decide-4, decide-go}
 use Rattle.cache.proofs.decide.Statement.{statement}
 use Rattle.cache.proofs.decide.Tie as tie
 
@@ -23,19 +22,19 @@ returns-2 c =
     let s = k .before .before in
     decide-3 (s .args .a .now) (s .args .p) (s .args .s) (sym (k .check .ensures) ∙ not-false _ (c .before .if1 .left)) (not-valid (s .args .p) (c .if2 .taken))
 
-get-word-requires : tie.Need-get-word-requires
-get-word-requires c κs =
+role-count-requires : tie.Need-role-count-requires
+role-count-requires c κs =
     let k = c .before .before in
     let s = k .before .before in
     let l = s .args .a .now in
-    first-word l (good-length l (is-true (goodBytes l) (sym (k .check .ensures) ∙ not-false _ (c .before .if1 .left))))
+    sound l (is-true (goodBytes l) (sym (k .check .ensures) ∙ not-false _ (c .before .if1 .left)))
 
 set-known-requires : tie.Need-set-known-requires
 set-known-requires c κs =
     let k = c .before .before .before in
     let s = k .before .before in
     let l = s .args .a .now in
-    roles-few l (c .get-word .result) (is-true (goodBytes l) (sym (k .check .ensures) ∙ not-false _ (c .before .before .if1 .left))) (c .get-word .ensures)
+    roles-few l (c .role-count .result) (is-true (goodBytes l) (sym (k .check .ensures) ∙ not-false _ (c .before .before .if1 .left))) (c .role-count .ensures)
 
 returns-3 : tie.Need-returns-3
 returns-3 c =
@@ -44,7 +43,7 @@ returns-3 c =
     let s = k .before .before in
     let l = s .args .a .now in
     decide-4 l (s .args .p) (s .args .s) (sym (k .check .ensures) ∙ not-false _ (w .before .before .if1 .left)) (is-valid (s .args .p) (w .before .if2 .left) (omega arith))
-    (set-known-at l _ (s .args .s) _ _ (w .get-word .ensures) (c .before .set-known .ensures) (not-true _ (c .if3 .taken)))
+    (set-known-at l _ (s .args .s) _ _ (w .role-count .ensures) (c .before .set-known .ensures) (not-true _ (c .if3 .taken)))
 
 row-for-requires : tie.Need-row-for-requires
 row-for-requires c κs =
@@ -74,9 +73,9 @@ returns-4 c =
     c .judge .ensures
     ∙ row-decides l (sound l (is-true (goodBytes l) good)) (s .args .p) (r .row-for .result) (r .row-for .ensures) (s .args .s)
     ∙ decide-go l (s .args .p) (s .args .s) good (is-valid (s .args .p) (w .before .if2 .left) (omega arith))
-    (set-known-at l _ (s .args .s) _ _ (w .get-word .ensures) (t .before .set-known .ensures) (not-false _ (t .if3 .left)))
+    (set-known-at l _ (s .args .s) _ _ (w .role-count .ensures) (t .before .set-known .ensures) (not-false _ (t .if3 .left)))
 
 pub decide-spec : {M : Type 1} → statement M
 decide-spec =
     tie.close
-    (tie.spec (λ c κs. search needs) returns returns-2 get-word-requires set-known-requires returns-3 row-for-requires judge-requires returns-4)
+    (tie.spec (λ c κs. search needs) returns returns-2 role-count-requires set-known-requires returns-3 row-for-requires judge-requires returns-4)
