@@ -6,12 +6,9 @@ use lines::Run;
 use lines::advance;
 use lines::start;
 ghost use mathlib.Core.Path.{_≡_};
-ghost use mathlib.Core.Bool.{_&&_};
 ghost use Prim.Native.Nat.{_≤_};
-ghost use lib.Dec.{leb};
 ghost use lib.ListN.{length};
-ghost use Rattle.area.specs.Layout.{mostRows};
-ghost use Rattle.gateway.specs.Turns.{Within, Closed, Answered};
+ghost use Rattle.gateway.specs.Turns.{Within, idle, Closed, Read, Answered, Turned};
 
 const INPUT: i32 = 0;
 
@@ -29,7 +26,7 @@ pub struct Flow {
 
 // Whether all that came in is read, and all that is to be shown is shown.
 fn is_idle(flow: Flow) -> bool
-    ensures { λ b. ⌜ b ≡ (leb mostRows (flow .run .row) && leb (flow .to) (flow .from)) ⌝ }
+    ensures { λ b. ⌜ b ≡ idle flow ⌝ }
 {
     let run = flow.run;
     (MOST_ROWS <= run.row) & (flow.to <= flow.from)
@@ -64,7 +61,7 @@ fn close(flow: Flow, piece: &mut [u8]) -> Flow
 // The next piece of the input. Where it cannot be read, the program ends: what it holds of a line need not be all of it.
 fn read_piece(flow: Flow, piece: &mut [u8]) -> Flow
     requires { ⌜ 1 ≤ length (now piece) ⌝ }
-    ensures { λ r. ⌜ Within r (now (piece .exit)) × (r .run ≡ flow .run) ⌝ }
+    ensures { λ r. ⌜ Read flow r (now (piece .exit)) ⌝ }
 {
     if flow.ended {
         return close(flow, piece);
@@ -117,7 +114,7 @@ fn answer_piece(flow: Flow, area: &mut [u8], piece: &[u8], out: &mut [u8]) -> Fl
 // One move of `Runs`: idle, the next piece is read; else the piece is answered.
 fn turn(flow: Flow, area: &mut [u8], piece: &mut [u8], out: &mut [u8]) -> Flow
     requires { ⌜ Within flow (now piece) × (1 ≤ length (now piece)) ⌝ }
-    ensures { λ r. ⌜ Within r (now (piece .exit)) ⌝ }
+    ensures { λ r. ⌜ Turned flow (now (area .entry)) (now (piece .entry)) (now (out .entry)) r (now (area .exit)) (now (piece .exit)) (now (out .exit)) ⌝ }
 {
     if is_idle(flow) {
         return read_piece(flow, piece);
