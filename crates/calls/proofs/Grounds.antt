@@ -16,7 +16,7 @@ use Rattle.meaning.proofs.Verdicts.{unlike}
 use Rattle.area.specs.Layout.{areaBytes, goodBytes}
 use Rattle.area.specs.State.{State, rowFor, withRow, stateOf}
 use Rattle.calls.specs.Calls.{Out, stays, holds, valid, isReply, fitsIn, eventOn, replied, updated, onArea, openOf, replyOf, updateOf, decideOf, forgetOf}
-use Rattle.calls.specs.Demands.{Ground, Exactly, Answers, Zero, Verdict, ground, areaGrounds, Demand1}
+use Rattle.calls.specs.Demands.{Ground, Exactly, OnGrounds, IsRecorded, Verdict, ground, areaGrounds, Demand1}
 use Rattle.calls.proofs.Outcomes.{decide-stays}
 
 -- ---- a ladder of refusals
@@ -61,11 +61,11 @@ module _ (l : List ℕ) (R : ℕ → Type 0) where
   rung : (b : Bool) (a : ℕ) (o : Out) (ns : List ℕ) (gs : List Ground) → T (lacks a ns) → Rung o ns gs → Rung (cond b (stays a l) o) (a ∷ ns) (ground a b ∷ gs)
   rung b a o ns gs n = rung-by b a (stays a l) o ns gs n refl (λ q. refl)
 
-  answers : (o : Out) (ns : List ℕ) (gs : List Ground) → Rung o ns gs → Answers l o gs R
+  answers : (o : Out) (ns : List ℕ) (gs : List Ground) → Rung o ns gs → OnGrounds l o gs R
   answers o ns gs r = record { exactly = r .exactly; unchanged = r .unchanged }
 
-zero-bottom : (l : List ℕ) (s : State) → Rung l Zero (holds 0 s) (0 ∷ []) []
-zero-bottom l s = bottom l Zero (holds 0 s) refl (λ p q. absurd (p refl))
+zero-bottom : (l : List ℕ) (s : State) → Rung l IsRecorded (holds 0 s) (0 ∷ []) []
+zero-bottom l s = bottom l IsRecorded (holds 0 s) refl (λ p q. absurd (p refl))
 
 -- ---- the calls
 
@@ -80,14 +80,14 @@ module _ (l : List ℕ) (p : ℕ) where
     event : (a : ℕ) → T (lacks 4 (6 ∷ a ∷ 0 ∷ [])) → T (lacks 6 (a ∷ 0 ∷ [])) → T (lacks a (0 ∷ []))
         → cond (isReply e) (stays 7 l) (holds 8 (withRow (stateOf l) p blank)) .answer ≡ a
         → (a ≢ 8 → cond (isReply e) (stays 7 l) (holds 8 (withRow (stateOf l) p blank)) .area ≡ l)
-        → Rung l Zero (eventOn l (stateOf l) p e (rowFor p (stateOf l .rows))) (4 ∷ 6 ∷ a ∷ 0 ∷ [])
+        → Rung l IsRecorded (eventOn l (stateOf l) p e (rowFor p (stateOf l .rows))) (4 ∷ 6 ∷ a ∷ 0 ∷ [])
         (ground 4 (not (known (stateOf l .roles) e)) ∷ ground 6 (contradicts e (rowFor p (stateOf l .rows))) ∷ ground a (not (fitsIn (stateOf l) p (step e (rowFor p (stateOf l .rows))))) ∷ [])
     unfolding eventOn
     event a x y z q u =
         let w = rowFor p (stateOf l .rows) in
-        rung l Zero (not (known (stateOf l .roles) e)) 4 _ (6 ∷ a ∷ 0 ∷ []) _ x
-        (rung l Zero (contradicts e w) 6 _ (a ∷ 0 ∷ []) _ y
-        (rung-by l Zero (not (fitsIn (stateOf l) p (step e w))) a _ _ (0 ∷ []) [] z q u (zero-bottom l (withRow (stateOf l) p (step e w)))))
+        rung l IsRecorded (not (known (stateOf l .roles) e)) 4 _ (6 ∷ a ∷ 0 ∷ []) _ x
+        (rung l IsRecorded (contradicts e w) 6 _ (a ∷ 0 ∷ []) _ y
+        (rung-by l IsRecorded (not (fitsIn (stateOf l) p (step e w))) a _ _ (0 ∷ []) [] z q u (zero-bottom l (withRow (stateOf l) p (step e w)))))
 
 reply-kind : (v s : ℕ) → isReply (replied v s) ≡ true
 unfolding isReply
@@ -125,17 +125,17 @@ verdict-not a b v t e =
 pub demand-1 : Demand1
 unfolding openOf replyOf updateOf decideOf forgetOf
 demand-1 = record {
-  open-answers = λ l n. answers l Zero _ (1 ∷ 2 ∷ 0 ∷ []) _
-      (rung l Zero (not (eqb (length l) areaBytes)) 1 _ (2 ∷ 0 ∷ []) _ tt (rung l Zero (not (leb 1 n && leb n mostRoles)) 2 _ (0 ∷ []) [] tt (zero-bottom l (record { roles = n; rows = [] }))));
-  reply-answers = λ l p v s. answers l Zero _ (1 ∷ 3 ∷ 5 ∷ 4 ∷ 6 ∷ 7 ∷ 0 ∷ []) _ (on-area l p Zero _ (5 ∷ 4 ∷ 6 ∷ 7 ∷ 0 ∷ []) _ tt tt
-      (rung l Zero (not (leb v 1)) 5 _ (4 ∷ 6 ∷ 7 ∷ 0 ∷ []) _ tt (event l p (replied v s) 7 tt tt tt (rw (reply-kind v s)) (λ q. rw (reply-kind v s)))));
-  update-answers = λ l p k r. answers l Zero _ (1 ∷ 3 ∷ 5 ∷ 4 ∷ 6 ∷ 8 ∷ 0 ∷ []) _ (on-area l p Zero _ (5 ∷ 4 ∷ 6 ∷ 8 ∷ 0 ∷ []) _ tt tt
-      (rung l Zero (not (leb k 1)) 5 _ (4 ∷ 6 ∷ 8 ∷ 0 ∷ []) _ tt (event l p (updated k r) 8 tt tt tt (rw (update-kind k r)) (λ q. absurd (q refl)))));
+  open-answers = λ l n. answers l IsRecorded _ (1 ∷ 2 ∷ 0 ∷ []) _
+      (rung l IsRecorded (not (eqb (length l) areaBytes)) 1 _ (2 ∷ 0 ∷ []) _ tt (rung l IsRecorded (not (leb 1 n && leb n mostRoles)) 2 _ (0 ∷ []) [] tt (zero-bottom l (record { roles = n; rows = [] }))));
+  reply-answers = λ l p v s. answers l IsRecorded _ (1 ∷ 3 ∷ 5 ∷ 4 ∷ 6 ∷ 7 ∷ 0 ∷ []) _ (on-area l p IsRecorded _ (5 ∷ 4 ∷ 6 ∷ 7 ∷ 0 ∷ []) _ tt tt
+      (rung l IsRecorded (not (leb v 1)) 5 _ (4 ∷ 6 ∷ 7 ∷ 0 ∷ []) _ tt (event l p (replied v s) 7 tt tt tt (rw (reply-kind v s)) (λ q. rw (reply-kind v s)))));
+  update-answers = λ l p k r. answers l IsRecorded _ (1 ∷ 3 ∷ 5 ∷ 4 ∷ 6 ∷ 8 ∷ 0 ∷ []) _ (on-area l p IsRecorded _ (5 ∷ 4 ∷ 6 ∷ 8 ∷ 0 ∷ []) _ tt tt
+      (rung l IsRecorded (not (leb k 1)) 5 _ (4 ∷ 6 ∷ 8 ∷ 0 ∷ []) _ tt (event l p (updated k r) 8 tt tt tt (rw (update-kind k r)) (λ q. absurd (q refl)))));
   decide-answers = λ l p s.
       let a = decide (rowFor p (stateOf l .rows)) s in
       answers l Verdict _ (1 ∷ 3 ∷ 4 ∷ 10 ∷ 11 ∷ 12 ∷ []) _ (on-area l p Verdict _ (4 ∷ 10 ∷ 11 ∷ 12 ∷ []) _ tt tt
       (rung l Verdict (not (partOf s (allBelow (stateOf l .roles)))) 4 _ (10 ∷ 11 ∷ 12 ∷ []) [] tt
       (record { exactly = verdict-is (rowFor p (stateOf l .rows)) s; unchanged = λ x y. refl; among = λ b. verdict-not a b (verdict-is (rowFor p (stateOf l .rows)) s) })));
   decide-unchanged = decide-stays;
-  forget-answers = λ l p. answers l Zero _ (1 ∷ 3 ∷ 0 ∷ []) _ (on-area l p Zero _ (0 ∷ []) [] tt tt (zero-bottom l (withRow (stateOf l) p blank)));
+  forget-answers = λ l p. answers l IsRecorded _ (1 ∷ 3 ∷ 0 ∷ []) _ (on-area l p IsRecorded _ (0 ∷ []) [] tt tt (zero-bottom l (withRow (stateOf l) p blank)));
 }

@@ -1,6 +1,6 @@
 -- The three demands, as statements about the calls' definitions; `proofs/Demands.antt` proves them.
 --     Ground, Exactly        a refusal with its ground; the answer is each number exactly on its ground, in this order
---     Answers                the answer exactly on its ground, and every answer but 0 and 8 leaves the bytes as they came
+--     OnGrounds              the answer exactly on its ground, and every answer but 0 and 8 leaves the bytes as they came
 --     Demand1                any numbers and any bytes get an answer of the table, each refusal exactly on its ground
 --     Demand2                over every history decide says what the possible holder sets of the trail force
 --     NoOther                events about one permission never change a decision about another
@@ -39,13 +39,13 @@ abbrev pub Exactly : ℕ → List Ground → (ℕ → Type 0) → Type 0
 Exactly a [] otherwise = otherwise a
 Exactly a (g ∷ gs) otherwise = ((a ≡ g .number) ↔ T (g .holds)) × (T (not (g .holds)) → Exactly a gs otherwise)
 
-pub record Answers (l : List ℕ) (o : Out) (gs : List Ground) (otherwise : ℕ → Type 0) : Type 0 where
+pub record OnGrounds (l : List ℕ) (o : Out) (gs : List Ground) (otherwise : ℕ → Type 0) : Type 0 where
   pub exactly : Exactly (o .answer) gs otherwise
   pub unchanged : o .answer ≢ 0 → o .answer ≢ 8 → o .area ≡ l
 
 -- where no ground holds: recorded, or a verdict
-abbrev pub Zero : ℕ → Type 0
-Zero a = a ≡ 0
+abbrev pub IsRecorded : ℕ → Type 0
+IsRecorded a = a ≡ 0
 
 abbrev pub Verdict : ℕ → Type 0
 Verdict a = (a ≡ 10) ⊎ ((a ≡ 11) ⊎ (a ≡ 12))
@@ -72,12 +72,12 @@ eventGrounds l p v e unfit =
     )
 
 pub record Demand1 : Type 0 where
-  pub open-answers : (l : List ℕ) (n : ℕ) → Answers l (openOf l n) (openGrounds l n) Zero
-  pub reply-answers : (l : List ℕ) (p v s : ℕ) → Answers l (replyOf l p v s) (eventGrounds l p v (replied v s) 7) Zero
-  pub update-answers : (l : List ℕ) (p k r : ℕ) → Answers l (updateOf l p k r) (eventGrounds l p k (updated k r) 8) Zero
-  pub decide-answers : (l : List ℕ) (p s : ℕ) → Answers l (decideOf l p s) (areaGrounds l p (ground 4 (not (partOf s (allBelow (stateOf l .roles)))) ∷ [])) Verdict
+  pub open-answers : (l : List ℕ) (n : ℕ) → OnGrounds l (openOf l n) (openGrounds l n) IsRecorded
+  pub reply-answers : (l : List ℕ) (p v s : ℕ) → OnGrounds l (replyOf l p v s) (eventGrounds l p v (replied v s) 7) IsRecorded
+  pub update-answers : (l : List ℕ) (p k r : ℕ) → OnGrounds l (updateOf l p k r) (eventGrounds l p k (updated k r) 8) IsRecorded
+  pub decide-answers : (l : List ℕ) (p s : ℕ) → OnGrounds l (decideOf l p s) (areaGrounds l p (ground 4 (not (partOf s (allBelow (stateOf l .roles)))) ∷ [])) Verdict
   pub decide-unchanged : (l : List ℕ) (p s : ℕ) → decideOf l p s .area ≡ l
-  pub forget-answers : (l : List ℕ) (p : ℕ) → Answers l (forgetOf l p) (areaGrounds l p []) Zero
+  pub forget-answers : (l : List ℕ) (p : ℕ) → OnGrounds l (forgetOf l p) (areaGrounds l p []) IsRecorded
 
 -- ---- demand 2
 

@@ -14,7 +14,7 @@ use Prim.Native.Nat.{ℕ, _+_, _-_, _≤_}
 use lib.Dec.{leb}
 use lib.ListN.{length, take, drop}
 use Rattle.text.specs.Ascii.{lf}
-use Rattle.split.specs.Split.{isNone, heldBy}
+use Rattle.split.specs.Split.{isNone, heldIn}
 use Rattle.area.specs.Layout.{mostRows}
 use Rattle.lines.specs.Run.{Advanced}
 use Rattle.lines.specs.declared.Progress.{Progress}
@@ -31,7 +31,7 @@ abbrev pub idle : Flow → Bool
 idle f = leb mostRows (f .run .row) && leb (f .to) (f .from)
 
 abbrev pub closing : Flow → Bool
-closing f = not (f .ended) && not (isNone (heldBy (f .run .line)))
+closing f = not (f .ended) && not (isNone (heldIn (f .run .line)))
 
 pub record Closed (f r : Flow) (bs : List ℕ) : Type 0 where
   pub within : Within r bs

@@ -23,28 +23,28 @@ use Rattle.walker.proofs.WalkLaws.{walked-good, walked-few}
 use Rattle.text.specs.Write.{Wrote}
 use Rattle.requests.specs.declared.Request.{Request}
 use Rattle.split.specs.Split as split
-use Rattle.split.specs.Split.{heldAll, said, beforeLf, heldBy}
+use Rattle.split.specs.Split.{heldAll, said, beforeLf, heldIn}
 use Rattle.split.specs.declared.Splitter.{Splitter}
 use Rattle.split.proofs.SplitLaws.{before-most}
 use Rattle.answers.specs.Texts.{answerText, rowText}
 use Rattle.answers.specs.Answers.{Answers}
 use Rattle.answers.specs.declared.Answered.{Answered}
 use Rattle.answers.proofs.Texts.{length-row}
-use Rattle.lines.specs.Written.{after}
-use Rattle.lines.specs.Run.{rowShown, shownText, asked, lineRead, lineText, mostText, runAt, settledRow, placed, Comes, Shown}
+use Rattle.lines.specs.Written.{nextNumber}
+use Rattle.lines.specs.Run.{rowShown, shownText, asked, lineRead, lineText, mostText, runAt, rowToShow, placed, Comes, Shown}
 use Rattle.lines.specs.declared.Progress.{Progress}
 
 -- ---- a bad area has no rows
 
 module _ (l : List ℕ) (i : ℕ) where
-  pub settled-bad : i < mostRows → goodBytes l ≡ false → mostRows ≡ settledRow l i
-  settled-bad h e = rw (lt-ltb i mostRows h, e) refl
+  pub rowToShow-bad : i < mostRows → goodBytes l ≡ false → mostRows ≡ rowToShow l i
+  rowToShow-bad h e = rw (lt-ltb i mostRows h, e) refl
 
-  pub settled-good : i < mostRows → goodBytes l ≡ true → i ≡ settledRow l i
-  settled-good h e = rw (lt-ltb i mostRows h, e) refl
+  pub rowToShow-good : i < mostRows → goodBytes l ≡ true → i ≡ rowToShow l i
+  rowToShow-good h e = rw (lt-ltb i mostRows h, e) refl
 
-  pub settled-past : mostRows ≤ i → i ≡ settledRow l i
-  settled-past h = rw (le-ltb i mostRows h) refl
+  pub rowToShow-past : mostRows ≤ i → i ≡ rowToShow l i
+  rowToShow-past h = rw (le-ltb i mostRows h) refl
 
 -- ---- a row handed out
 
@@ -133,7 +133,7 @@ module _ (p : Progress) (l bs d : List ℕ) (e : ℕ) (inside : p .read ≤ leng
   between : e - p .read ≡ beforeLf (drop (p .read) bs)
   between = omega arith
 
-  pub line-kept : (s : Splitter) → p .written ≤ length d → e ≡ length bs → heldBy s ≡ heldAll (heldBy (p .run .line)) (take (e - p .read) (drop (p .read) bs))
+  pub line-kept : (s : Splitter) → p .written ≤ length d → e ≡ length bs → heldIn s ≡ heldAll (heldIn (p .run .line)) (take (e - p .read) (drop (p .read) bs))
       → Comes p (lineRead (placed p l bs)) (lineText (placed p l bs)) d (record { run = record { line = s; number = p .run .number; row = p .run .row }; read = e; written = p .written }) l bs d
   unfolding lineRead lineText
   line-kept s room whole k =
@@ -152,12 +152,12 @@ module _ (p : Progress) (l bs d : List ℕ) (e : ℕ) (inside : p .read ≤ leng
     ends = lt-ltb (beforeLf (drop (p .read) bs)) (length (drop (p .read) bs)) (let i = end-inside in omega (arith, rest-length, between))
 
     pub line-answered : (q : Request) (a : Answered) (l′ : List ℕ) (s : Splitter) (k : ℕ) (z : ℕ) (d′ : List ℕ)
-        → q ≡ said (heldAll (heldBy (p .run .line)) (take (e - p .read) (drop (p .read) bs))) → Answers l q a l′
-        → heldBy s ≡ split.none → k ≡ after (p .run .number) → p .written + length (answerText (p .run .number) (a .answer)) ≤ length d → Wrote d (p .written) (answerText (p .run .number) (a .answer)) d′ z
+        → q ≡ said (heldAll (heldIn (p .run .line)) (take (e - p .read) (drop (p .read) bs))) → Answers l q a l′
+        → heldIn s ≡ split.none → k ≡ nextNumber (p .run .number) → p .written + length (answerText (p .run .number) (a .answer)) ≤ length d → Wrote d (p .written) (answerText (p .run .number) (a .answer)) d′ z
         → Comes p (lineRead (placed p l bs)) (lineText (placed p l bs)) d (record { run = record { line = s; number = k; row = a .row }; read = e + 1; written = z }) l′ bs d′
     unfolding lineRead lineText
     line-answered q a l′ s k z d′ said-q answers new number room w =
-        let asked-q : asked (placed p l bs) ≡ q = sym (said-q ∙ ap (λ (n : ℕ). said (heldAll (heldBy (p .run .line)) (take n (drop (p .read) bs)))) between) in
+        let asked-q : asked (placed p l bs) ≡ q = sym (said-q ∙ ap (λ (n : ℕ). said (heldAll (heldIn (p .run .line)) (take n (drop (p .read) bs)))) between) in
         let behind : drop (e + 1) bs ≡ drop (suc (beforeLf (drop (p .read) bs))) (drop (p .read) bs) =
         ap (λ (n : ℕ). drop n bs) (let n : e + 1 ≡ p .read + suc (beforeLf (drop (p .read) bs)) = omega arith in n) ∙ sym (drop-drop (suc (beforeLf (drop (p .read) bs))) (p .read) bs) in
         record {

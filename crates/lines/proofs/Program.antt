@@ -9,7 +9,7 @@ use lib.Dec.{eqb}
 use lib.ListN.{length}
 use Rattle.area.specs.Layout.{mostRows}
 use Rattle.text.specs.Ascii.{lf}
-use Rattle.split.specs.Split.{Held, none, isNone, linesFrom, joined}
+use Rattle.split.specs.Split.{Held, none, isNone, linesFrom, whole}
 use Rattle.lines.specs.Written.{written, programWrites}
 use Rattle.lines.specs.Run.{Place, showing}
 use Rattle.lines.specs.Program.{start, idle, fedWith, Runs, writes, reads, closes, ends, ProgramWrites}
@@ -47,13 +47,13 @@ no-lines : (k : ℕ) (l : List ℕ) → written k l (linesFrom none []) ≡ []
 unfolding written linesFrom isNone
 no-lines k l = refl
 
-runs-still : {m : Place} {ps : List (List ℕ)} {t : List ℕ} → Runs m ps t → stillTo m (joined ps) ≡ t
-unfolding joined
-runs-still {ps = ps} (writes {t = t} room a r) = advances-still a (joined ps) ∙ ap (λ (x : List ℕ). t ++ x) (runs-still r)
-runs-still {m = m} (reads {ps = ps} p e r) = sym (fed-still m p (joined ps) e) ∙ runs-still r
+runs-still : {m : Place} {ps : List (List ℕ)} {t : List ℕ} → Runs m ps t → stillTo m (whole ps) ≡ t
+unfolding whole
+runs-still {ps = ps} (writes {t = t} room a r) = advances-still a (whole ps) ∙ ap (λ (x : List ℕ). t ++ x) (runs-still r)
+runs-still {m = m} (reads {ps = ps} p e r) = sym (fed-still m p (whole ps) e) ∙ runs-still r
 runs-still {m = m} (closes e n r) = sym (closed-still m e n) ∙ runs-still r
 runs-still {m = m} (ends e n) = idle-still m [] e ∙ ap (λ (h : Held). written (m .number) (m .area) (linesFrom h [])) (none-only (m .held) n) ∙ no-lines (m .number) (m .area)
 
 pub program-writes : ProgramWrites
 unfolding programWrites
-program-writes ps t r = sym (runs-still r) ∙ idle-still start (joined ps) refl
+program-writes ps t r = sym (runs-still r) ∙ idle-still start (whole ps) refl

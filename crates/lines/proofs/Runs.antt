@@ -9,7 +9,7 @@ use lib.Dec.{eqb, ltb}
 use lib.ListN.{length, length-drop}
 use lib.Seq.{sets}
 use Rattle.text.specs.Ascii.{lf}
-use Rattle.split.specs.Split.{Held, none, isNone, heldAll, beforeLf, joined}
+use Rattle.split.specs.Split.{Held, none, isNone, heldAll, beforeLf, whole}
 use Rattle.lines.specs.Written.{programWrites}
 use Rattle.lines.specs.Run.{Place, showing, rowShown, lineRead, mostText, turned, turnText, goesOn, Advances, stops, turns}
 use Rattle.lines.specs.Program.{start, idle, fedWith, Runs, writes, reads, closes, ends, InRoom, Partly, so-far, within, wrote, read, closed, Prefix, ProgramRuns, AdvancedOne}
@@ -35,19 +35,19 @@ advanced-one r l bs d p q l₁ l₂ e₁ e₂ a b =
 
 -- ---- a run up to any moment
 
-partly-still : {m : Place} {ps : List (List ℕ)} {t : List ℕ} → Partly m ps t → (u : List ℕ) × (t ++ u ≡ stillTo m (joined ps))
-unfolding joined
-partly-still {m} {ps} so-far = (stillTo m (joined ps), refl)
-partly-still {m} {ps} (within {k = k} {t = t} room u a) = (u ++ stillTo k (joined ps), sym (append-assoc t u (stillTo k (joined ps))) ∙ sym (advances-still a (joined ps)))
+partly-still : {m : Place} {ps : List (List ℕ)} {t : List ℕ} → Partly m ps t → (u : List ℕ) × (t ++ u ≡ stillTo m (whole ps))
+unfolding whole
+partly-still {m} {ps} so-far = (stillTo m (whole ps), refl)
+partly-still {m} {ps} (within {k = k} {t = t} room u a) = (u ++ stillTo k (whole ps), sym (append-assoc t u (stillTo k (whole ps))) ∙ sym (advances-still a (whole ps)))
 partly-still {m} {ps} (wrote {t = t} {u = u} room a r) =
     let s = partly-still r in
-    (s .0, append-assoc t u (s .0) ∙ ap (λ (x : List ℕ). t ++ x) (s .1) ∙ sym (advances-still a (joined ps)))
-partly-still {m} (read {ps = ps} p e r) = let s = partly-still r in (s .0, s .1 ∙ fed-still m p (joined ps) e)
+    (s .0, append-assoc t u (s .0) ∙ ap (λ (x : List ℕ). t ++ x) (s .1) ∙ sym (advances-still a (whole ps)))
+partly-still {m} (read {ps = ps} p e r) = let s = partly-still r in (s .0, s .1 ∙ fed-still m p (whole ps) e)
 partly-still {m} (closed e n r) = let s = partly-still r in (s .0, s .1 ∙ closed-still m e n)
 
 pub prefix : Prefix
 unfolding programWrites
-prefix ps t r = let s = partly-still r in (s .0, s .1 ∙ idle-still start (joined ps) refl)
+prefix ps t r = let s = partly-still r in (s .0, s .1 ∙ idle-still start (whole ps) refl)
 
 -- ---- turns stop somewhere
 

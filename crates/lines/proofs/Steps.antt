@@ -17,7 +17,7 @@ use Rattle.requests.specs.declared.Request.{Request}
 use Rattle.requests.specs.declared.Request.the-variants.{Open, Told, Decide, Forget, Show, Unreadable}
 use Rattle.split.specs.Split.{beforeLf}
 use Rattle.answers.specs.Answers.{answerOf, firstShown}
-use Rattle.lines.specs.Run.{Place, placeOf, showing, rowThere, rowShown, shownText, lineEnds, asked, answered, kept, lineRead, lineText, mostText, turned, turnText, goesOn, Advances, stops, turns, runAt, settledRow, placed, Ready, Comes, Shown, Advanced}
+use Rattle.lines.specs.Run.{Place, placeOf, showing, rowThere, rowShown, shownText, lineEnds, asked, answered, kept, lineRead, lineText, mostText, turned, turnText, goesOn, Advances, stops, turns, runAt, rowToShow, placed, Ready, Comes, Shown, Advanced}
 use Rattle.lines.specs.declared.Run.{Run}
 use Rattle.lines.specs.declared.Progress.{Progress}
 
@@ -128,8 +128,8 @@ turned-walkable m w = go (showing m) refl
     go true e = λ h. w (ltb-true (m .row) mostRows e)
     go false e = read (lineEnds m)
 
-pub settled-walkable : (l : List ℕ) (i : ℕ) → Walkable l (settledRow l i)
-settled-walkable l i = go (ltb i mostRows) refl (goodBytes l) refl
+pub rowToShow-walkable : (l : List ℕ) (i : ℕ) → Walkable l (rowToShow l i)
+rowToShow-walkable l i = go (ltb i mostRows) refl (goodBytes l) refl
   where
     go : (s : Bool) → ltb i mostRows ≡ s → (g : Bool) → goodBytes l ≡ g → Walkable l (cond s (cond g i mostRows) i)
     go true e true f h = sound l (rw f tt)
@@ -207,8 +207,8 @@ module _ (r : Run) (l bs : List ℕ) (room : ℕ) (h : mostText ≤ room) (k : P
       subst (λ (x : List ℕ). Advances room m k (x ++ t)) text
       (turns goes (subst⁻¹ (λ (n : ℕ). Advances n (turned m) k t) same (subst⁻¹ (λ (x : Place). Advances room x k t) place a)))
 
-  pub settled-goes : Advances room (placeOf (runAt r (settledRow l (r .row))) l bs) k t → Advances room (placeOf r l bs) k t
-  settled-goes a = go (ltb (r .row) mostRows) refl (goodBytes l) refl a
+  pub rowToShow-goes : Advances room (placeOf (runAt r (rowToShow l (r .row))) l bs) k t → Advances room (placeOf r l bs) k t
+  rowToShow-goes a = go (ltb (r .row) mostRows) refl (goodBytes l) refl a
     where
       go : (s : Bool) → ltb (r .row) mostRows ≡ s → (g : Bool) → goodBytes l ≡ g
           → Advances room (placeOf (runAt r (cond s (cond g (r .row) mostRows) (r .row))) l bs) k t → Advances room (placeOf r l bs) k t

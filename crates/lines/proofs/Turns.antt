@@ -18,7 +18,7 @@ use Rattle.requests.specs.declared.Request.the-variants.{Open, Told, Decide, Fo
 use Rattle.split.specs.Split.{none, heldAll, linesFrom, beforeLf}
 use Rattle.answers.specs.Answers.{answerOf, firstShown}
 use Rattle.answers.specs.Texts.{answerText, rowText}
-use Rattle.lines.specs.Written.{shown, rowsText, after, lineWritten, written}
+use Rattle.lines.specs.Written.{shown, rowsText, nextNumber, lineWritten, written}
 use Rattle.lines.specs.Run.{Place, showing, rowThere, rowShown, shownText, lineEnds, asked, answered, kept, lineRead, lineText, turned, turnText, goesOn, Advances, stops, turns}
 use Rattle.split.proofs.SplitLaws.{lines-ended, lines-open}
 
@@ -80,7 +80,7 @@ module _ (m : Place) (more : List ℕ) (none-shown : mostRows ≤ m .row) where
   ended h =
       let l = m .area in
       let q = asked m in
-      let rest = written (after (m .number)) (answerOf l q .area) (linesFrom none (drop (suc (beforeLf (m .input))) (m .input) ++ more)) in
+      let rest = written (nextNumber (m .number)) (answerOf l q .area) (linesFrom none (drop (suc (beforeLf (m .input))) (m .input) ++ more)) in
       ap (written (m .number) l) (lines-ended (m .held) (m .input) more h)
       ∙ append-assoc (answerText (m .number) (answerOf l q .answer)) (rowsText (shown l q)) rest
       ∙ ap (λ (x : List ℕ). answerText (m .number) (answerOf l q .answer) ++ (x ++ rest)) (shown-first l q)

@@ -19,7 +19,7 @@ use lib.Dec.{eqb}
 use lib.ListN.{length, replicate}
 use Rattle.area.specs.Layout.{mostRows, areaBytes}
 use Rattle.text.specs.Ascii.{lf}
-use Rattle.split.specs.Split.{none, isNone, joined, heldBy}
+use Rattle.split.specs.Split.{none, isNone, whole, heldIn}
 use Rattle.lines.specs.Written.{programWrites}
 use Rattle.lines.specs.Run.{Place, showing, mostText, Advances, Advanced}
 use Rattle.lines.specs.declared.Run.{Run}
@@ -62,20 +62,20 @@ pub record Agree (p q : Progress) (l m e f : List ℕ) : Type 0 where
   pub buffer : e ≡ f
   pub read : p .read ≡ q .read
   pub written : p .written ≡ q .written
-  pub held : heldBy (p .run .line) ≡ heldBy (q .run .line)
+  pub held : heldIn (p .run .line) ≡ heldIn (q .run .line)
   pub number : p .run .number ≡ q .run .number
   pub row : p .run .row ≡ q .run .row
 
 -- ---- the theorems
 
 abbrev pub ProgramWrites : Type 0
-ProgramWrites = (ps : List (List ℕ)) (t : List ℕ) → Runs start ps t → t ≡ programWrites (joined ps)
+ProgramWrites = (ps : List (List ℕ)) (t : List ℕ) → Runs start ps t → t ≡ programWrites (whole ps)
 
 abbrev pub ProgramRuns : Type 0
 ProgramRuns = (room : ℕ) → mostText ≤ room → (ps : List (List ℕ)) → (t : List ℕ) × (r : Runs start ps t) × InRoom room r
 
 abbrev pub Prefix : Type 0
-Prefix = (ps : List (List ℕ)) (t : List ℕ) → Partly start ps t → (u : List ℕ) × (t ++ u ≡ programWrites (joined ps))
+Prefix = (ps : List (List ℕ)) (t : List ℕ) → Partly start ps t → (u : List ℕ) × (t ++ u ≡ programWrites (whole ps))
 
 abbrev pub AdvancedOne : Type 0
 AdvancedOne = (r : Run) (l bs d : List ℕ) (p q : Progress) (l₁ l₂ e₁ e₂ : List ℕ)

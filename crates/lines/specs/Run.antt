@@ -12,7 +12,7 @@
 --     mostText            no turn writes more
 --     goesOn room m       a turn is taken while there is something to do, and room for what it writes
 --     Advances room m k t turns are taken from m on as long as it goes on: they come to k and write t
---     runAt, settledRow   a run at another row; the row to go on with, where a bad area has none
+--     runAt, rowToShow    a run at another row; the row to go on with, where a bad area has none
 --     placed, Ready, Comes, Shown, Advanced    what the functions of the code ask and promise
 use mathlib.Core.Path.{_≡_}
 use mathlib.Core.Bool.{Bool, true, false, cond, _&&_, _||_}
@@ -25,10 +25,10 @@ use Rattle.walker.specs.Walk.{walked, Walkable}
 use Rattle.table.specs.Table.{nth}
 use Rattle.text.specs.Write.{Wrote}
 use Rattle.requests.specs.declared.Request.{Request}
-use Rattle.split.specs.Split.{Held, none, heldAll, said, beforeLf, heldBy}
+use Rattle.split.specs.Split.{Held, none, heldAll, said, beforeLf, heldIn}
 use Rattle.answers.specs.Answers.{answerOf, firstShown}
 use Rattle.answers.specs.Texts.{answerText, rowText}
-use Rattle.lines.specs.Written.{after}
+use Rattle.lines.specs.Written.{nextNumber}
 use Rattle.lines.specs.declared.Run.{Run}
 use Rattle.lines.specs.declared.Progress.{Progress}
 
@@ -40,7 +40,7 @@ pub record Place : Type 0 where
   pub input : List ℕ
 
 abbrev pub placeOf : Run → List ℕ → List ℕ → Place
-placeOf r l bs = record { held = heldBy (r .line); number = r .number; row = r .row; area = l; input = bs }
+placeOf r l bs = record { held = heldIn (r .line); number = r .number; row = r .row; area = l; input = bs }
 
 -- ---- a row shown
 
@@ -68,7 +68,7 @@ abbrev pub asked : Place → Request
 asked m = said (heldAll (m .held) (take (beforeLf (m .input)) (m .input)))
 
 abbrev pub answered : Place → Request → Place
-answered m q = record { held = none; number = after (m .number); row = firstShown (m .area) q; area = answerOf (m .area) q .area; input = drop (suc (beforeLf (m .input))) (m .input) }
+answered m q = record { held = none; number = nextNumber (m .number); row = firstShown (m .area) q; area = answerOf (m .area) q .area; input = drop (suc (beforeLf (m .input))) (m .input) }
 
 abbrev pub kept : Place → Place
 kept m = record { held = heldAll (m .held) (m .input); number = m .number; row = m .row; area = m .area; input = [] }
@@ -104,8 +104,8 @@ abbrev pub runAt : Run → ℕ → Run
 runAt r i = record { line = r .line; number = r .number; row = i }
 
 -- a bad area has no row to be shown
-abbrev pub settledRow : List ℕ → ℕ → ℕ
-settledRow l i = cond (ltb i mostRows) (cond (goodBytes l) i mostRows) i
+abbrev pub rowToShow : List ℕ → ℕ → ℕ
+rowToShow l i = cond (ltb i mostRows) (cond (goodBytes l) i mostRows) i
 
 -- where the code has come to on the area l, in the piece bs
 abbrev pub placed : Progress → List ℕ → List ℕ → Place

@@ -1,7 +1,7 @@
 -- What the line program writes: for each line its number and the answer, and after an S line the rows.
 --     shown l q           the rows that follow the answer to q
 --     rowsText            rows, one after the other
---     after k             the number of the next line; numbers have 64 bits
+--     nextNumber k        the number of the next line; numbers have 64 bits
 --     lineWritten k l q   what is written for line k, where it says q
 --     written k l hs      what is written for the lines hs from number k on, on the area l
 --     programWrites bs    what is written for the input bs; the area starts as zeros
@@ -33,15 +33,15 @@ rowsText (e ∷ es) = rowText e ++ rowsText es
 
 -- ---- all that is written
 
-abbrev pub after : ℕ → ℕ
-after k = (k + 1) % 2 ^ 64
+abbrev pub nextNumber : ℕ → ℕ
+nextNumber k = (k + 1) % 2 ^ 64
 
 unfoldable pub lineWritten : ℕ → List ℕ → Request → List ℕ
 lineWritten k l q = answerText k (answerOf l q .answer) ++ rowsText (shown l q)
 
 unfoldable pub written : ℕ → List ℕ → List Held → List ℕ
 written k l [] = []
-written k l (h ∷ hs) = lineWritten k l (said h) ++ written (after k) (answerOf l (said h) .area) hs
+written k l (h ∷ hs) = lineWritten k l (said h) ++ written (nextNumber k) (answerOf l (said h) .area) hs
 
 unfoldable pub programWrites : List ℕ → List ℕ
 programWrites bs = written 1 (replicate areaBytes 0) (linesOf bs)

@@ -16,7 +16,7 @@ ghost use lib.Dec.{leb, ltb};
 ghost use lib.ListN.{length, replicate};
 ghost use Rattle.area.specs.Layout.{mostRows, areaBytes};
 ghost use Rattle.walker.specs.Walk.{Walkable};
-ghost use Rattle.lines.specs.Run.{mostText, placeOf, lineRead, lineText, turned, turnText, runAt, settledRow, placed, Ready, Comes, Shown, Advanced};
+ghost use Rattle.lines.specs.Run.{mostText, placeOf, lineRead, lineText, turned, turnText, runAt, rowToShow, placed, Ready, Comes, Shown, Advanced};
 ghost use Rattle.lines.specs.Program.{start};
 
 // Room for what one turn writes.
@@ -134,8 +134,8 @@ fn goes_on(p: Progress, bytes: usize, room: usize) -> bool
 }
 
 // A bad area has no rows to be shown.
-fn settled(run: Run, area: &[u8]) -> Run
-    ensures { λ r. ⌜ r ≡ runAt run (settledRow (now (area .entry)) (run .row)) ⌝ }
+fn rows_to_show(run: Run, area: &[u8]) -> Run
+    ensures { λ r. ⌜ r ≡ runAt run (rowToShow (now (area .entry)) (run .row)) ⌝ }
 {
     let line = run.line;
     if run.row < MOST_ROWS {
@@ -163,7 +163,7 @@ pub fn advance(run: Run, area: &mut [u8], piece: &[u8], out: &mut [u8]) -> Progr
         };
     }
     let mut p = Progress {
-        run: settled(run, area),
+        run: rows_to_show(run, area),
         read: 0,
         written: 0,
     };

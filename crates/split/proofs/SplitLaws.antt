@@ -13,15 +13,15 @@ use lib.ListN.{length, take, drop, getD, set, length-append, drop-of-length-le}
 use lib.Seq.{take-suc, take-suc-set}
 use Rattle.text.specs.Ascii.{lf}
 use Rattle.meaning.proofs.Walks.{drop-next}
-use Rattle.split.specs.Split.{mostBytes, Held, short, long, none, isNone, heldThen, heldAll, linesFrom, ended, left, linesCut, joined, beforeLf, heldBy}
+use Rattle.split.specs.Split.{mostBytes, Held, short, long, none, isNone, heldThen, heldAll, linesFrom, ended, left, linesCut, whole, beforeLf, heldIn}
 use Rattle.split.specs.declared.Splitter.{Splitter}
 
 -- ---- what a splitter keeps
 
-pub held-short : (s : Splitter) → s .len ≤ mostBytes → heldBy s ≡ short (take (s .len) (s .bytes))
+pub held-short : (s : Splitter) → s .len ≤ mostBytes → heldIn s ≡ short (take (s .len) (s .bytes))
 held-short s h = rw (le-leb (s .len) mostBytes h) refl
 
-pub held-long : (s : Splitter) → mostBytes < s .len → heldBy s ≡ long
+pub held-long : (s : Splitter) → mostBytes < s .len → heldIn s ≡ long
 held-long s h = rw (lt-leb (s .len) mostBytes h) refl
 
 pub take-none : (n : ℕ) (l : List ℕ) → n ≤ length l → eqb n 0 ≡ isNone (short (take n l))
@@ -30,7 +30,7 @@ take-none zero l h = refl
 take-none (suc n) [] h = absurd (omega arith)
 take-none (suc n) (b ∷ l) h = eqb·suc-zero n
 
-pub empty-none : (s : Splitter) → length (s .bytes) ≡ mostBytes → eqb (s .len) 0 ≡ isNone (heldBy s)
+pub empty-none : (s : Splitter) → length (s .bytes) ≡ mostBytes → eqb (s .len) 0 ≡ isNone (heldIn s)
 unfolding isNone
 empty-none s h = by-cases (decLe (s .len) mostBytes)
     (λ k. take-none (s .len) (s .bytes) (omega arith) ∙ sym (ap isNone (held-short s k)))
@@ -141,7 +141,7 @@ cut-once h (b ∷ bs) more = go (eqb b lf) (cut-once none bs more) (cut-once (he
     go true e f = ap (λ (x : List Held). h ∷ x) e
     go false e f = f
 
-pub any-cut : (h : Held) (ps : List (List ℕ)) → linesCut h ps ≡ linesFrom h (joined ps)
-unfolding linesCut joined
+pub any-cut : (h : Held) (ps : List (List ℕ)) → linesCut h ps ≡ linesFrom h (whole ps)
+unfolding linesCut whole
 any-cut h [] = refl
-any-cut h (p ∷ ps) = ap (λ (x : List Held). ended h p ++ x) (any-cut (left h p) ps) ∙ sym (cut-once h p (joined ps))
+any-cut h (p ∷ ps) = ap (λ (x : List Held). ended h p ++ x) (any-cut (left h p) ps) ∙ sym (cut-once h p (whole ps))

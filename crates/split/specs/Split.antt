@@ -8,10 +8,10 @@
 --     linesOf            the lines of an input
 --     ended, left        the lines that end within bytes, and what is held of the next behind them
 --     linesCut h ps      the lines of an input that comes in the pieces ps
---     joined ps          the pieces, one behind the other
+--     whole ps           the pieces, one behind the other
 --     said h             the request that a line says: one that is too long is unreadable
 --     beforeLf bs        how many bytes stand before the first LF
---     heldBy             the line that the code's splitter keeps
+--     heldIn             the line that the code's splitter keeps
 use mathlib.Core.Bool.{Bool, true, false, cond}
 use mathlib.Core.List.{List, [], _∷_, _++_}
 use Prim.Native.Nat.{ℕ, suc}
@@ -65,9 +65,9 @@ unfoldable pub linesCut : Held → List (List ℕ) → List Held
 linesCut h [] = linesFrom h []
 linesCut h (p ∷ ps) = ended h p ++ linesCut (left h p) ps
 
-unfoldable pub joined : List (List ℕ) → List ℕ
-joined [] = []
-joined (p ∷ ps) = p ++ joined ps
+unfoldable pub whole : List (List ℕ) → List ℕ
+whole [] = []
+whole (p ∷ ps) = p ++ whole ps
 
 unfoldable pub said : Held → Request
 said (short l) = requestOf l
@@ -78,5 +78,5 @@ beforeLf [] = 0
 beforeLf (b ∷ bs) = cond (eqb b lf) 0 (suc (beforeLf bs))
 
 -- more than 200 bytes say that the line is too long
-abbrev pub heldBy : Splitter → Held
-heldBy s = cond (leb (s .len) mostBytes) (short (take (s .len) (s .bytes))) long
+abbrev pub heldIn : Splitter → Held
+heldIn s = cond (leb (s .len) mostBytes) (short (take (s .len) (s .bytes))) long

@@ -4,7 +4,7 @@ use requests::read_request;
 ghost use mathlib.Core.Path.{_≡_};
 ghost use Prim.Native.Nat.{_+_};
 ghost use lib.ListN.{drop};
-ghost use Rattle.split.specs.Split.{none, isNone, heldAll, said, beforeLf, heldBy};
+ghost use Rattle.split.specs.Split.{none, isNone, heldAll, said, beforeLf, heldIn};
 
 // What a line may have before its LF.
 pub const MOST_BYTES: usize = 200;
@@ -18,7 +18,7 @@ pub struct Splitter {
 impl Splitter {
     // No byte yet.
     pub fn new() -> Splitter
-        ensures { λ r. ⌜ heldBy r ≡ none ⌝ }
+        ensures { λ r. ⌜ heldIn r ≡ none ⌝ }
     {
         Splitter {
             bytes: [0u8; MOST_BYTES],
@@ -27,14 +27,14 @@ impl Splitter {
     }
 
     pub fn is_empty(self) -> bool
-        ensures { λ b. ⌜ b ≡ isNone (heldBy self) ⌝ }
+        ensures { λ b. ⌜ b ≡ isNone (heldIn self) ⌝ }
     {
         self.len == 0
     }
 
     // With more bytes of the line.
     pub fn then(self, piece: &[u8]) -> Splitter
-        ensures { λ r. ⌜ heldBy r ≡ heldAll (heldBy self) (now (piece .entry)) ⌝ }
+        ensures { λ r. ⌜ heldIn r ≡ heldAll (heldIn self) (now (piece .entry)) ⌝ }
     {
         let at = self.len;
         if MOST_BYTES < at {
@@ -60,7 +60,7 @@ impl Splitter {
 
     // The request that the line says, at its end.
     pub fn said(self) -> Request
-        ensures { λ r. ⌜ r ≡ said (heldBy self) ⌝ }
+        ensures { λ r. ⌜ r ≡ said (heldIn self) ⌝ }
     {
         let n = self.len;
         if MOST_BYTES < n {
@@ -83,7 +83,7 @@ fn said_whole(line: &[u8]) -> Request
 
 // The request that a line says, where `rest` is what comes behind the line so far.
 pub fn asked(line: Splitter, rest: &[u8]) -> Request
-    ensures { λ r. ⌜ r ≡ said (heldAll (heldBy line) (now (rest .entry))) ⌝ }
+    ensures { λ r. ⌜ r ≡ said (heldAll (heldIn line) (now (rest .entry))) ⌝ }
 {
     if line.is_empty() {
         return said_whole(rest);
