@@ -7,7 +7,7 @@ use calls::number;
 use meaning::Event;
 use meaning::Happening;
 use requests::Request;
-use walker::first_row;
+use walker::begin;
 ghost use mathlib.Core.Path.{_≡_};
 ghost use Rattle.calls.specs.Answers.{numberOf, Gives};
 ghost use Rattle.calls.specs.Histories.{outOf, callOf};
@@ -43,13 +43,15 @@ fn called(r: Answer) -> Answered
     }
 }
 
-// The answer to S: only a good area has a first row.
+// The answer to S is that of a walk.
 fn show(area: &[u8]) -> Answered
     ensures { λ a. ⌜ a ≡ showAnswer (now (area .entry)) ⌝ }
 {
-    let row = first_row(area);
-    let answer = if row == 0 { 0 } else { 1 };
-    Answered { answer, row }
+    let s = begin(area);
+    Answered {
+        answer: s.answer,
+        row: s.row,
+    }
 }
 
 pub fn answer(area: &mut [u8], q: Request) -> Answered

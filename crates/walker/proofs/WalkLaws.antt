@@ -19,11 +19,8 @@ use Rattle.area.proofs.RowLaws.{row-good}
 use Rattle.area.proofs.Bytes.{good-state}
 use Rattle.table.specs.Table.{Sound, rowsIn, nth}
 use Rattle.table.proofs.RowWords.{sound}
-use Rattle.meaning.proofs.Verdicts.{unlike}
-use Rattle.walker.specs.Walk.{walked, firstRow, given, none, handed, numberAfter, Walkable, startAnswer, startedNumber}
+use Rattle.walker.specs.Walk.{walked, firstRow, given, none, handed, numberAfter, Walkable, startAnswer, started}
 use Rattle.walker.specs.declared.Handed.{Handed}
-use Rattle.walker.specs.declared.Started.{Started}
-use Rattle.walker.specs.declared.Started.the-variants.{Good, BadArea}
 
 good-or-bad : (l : List ℕ) {A : Type 0} → (goodBytes l ≡ true → A) → (goodBytes l ≡ false → A) → A
 good-or-bad l {A} g b = by-cases (goodBytes l) refl
@@ -42,20 +39,13 @@ pub first-bad : (l : List ℕ) → goodBytes l ≡ false → firstRow l ≡ most
 unfolding firstRow
 first-bad l e = rw e
 
-pub answer-good : (l : List ℕ) → goodBytes l ≡ true → startAnswer l ≡ 0
-unfolding startAnswer
-answer-good l e = rw e
+pub started-good : (l : List ℕ) → goodBytes l ≡ true → started l ≡ record { answer = 0; row = 0 }
+unfolding startAnswer firstRow
+started-good l e = rw e
 
-pub answer-bad : (l : List ℕ) → goodBytes l ≡ false → startAnswer l ≡ 1
-unfolding startAnswer
-answer-bad l e = rw e
-
--- no two cases of it have one number
-pub started-one : (a b : Started) → startedNumber a ≡ startedNumber b → a ≡ b
-started-one Good Good e = refl
-started-one Good BadArea e = unlike tt e
-started-one BadArea Good e = unlike tt e
-started-one BadArea BadArea e = refl
+pub started-bad : (l : List ℕ) → goodBytes l ≡ false → started l ≡ record { answer = 1; row = mostRows }
+unfolding startAnswer firstRow
+started-bad l e = rw e
 
 -- ---- the rows that are walked
 

@@ -7,7 +7,7 @@
 --     numberAfter k l    the number after k rows were asked for, from the start on
 --     Walkable l i       only a good area has a row of number i
 --     startAnswer l      document 01's answer to a start
---     startedNumber      document 01's number for each case of it
+--     started l          what the code gives: that answer, and the number of the first row
 use mathlib.Core.Bool.{true, false, cond}
 use mathlib.Core.List.{List, []}
 use Prim.Native.Nat.{ℕ, zero, suc, _+_, _<_}
@@ -20,7 +20,6 @@ use Rattle.rows.specs.Stored.{storedRow}
 use Rattle.table.specs.Table.{Sound, rowsIn, nth}
 use Rattle.walker.specs.declared.Handed.{Handed}
 use Rattle.walker.specs.declared.Started.{Started}
-use Rattle.walker.specs.declared.Started.the-variants.{Good, BadArea}
 
 unfoldable pub walked : List ℕ → List Entry
 walked l = cond (goodBytes l) (rowsIn l) []
@@ -47,6 +46,5 @@ Walkable l i = i < mostRows → Sound l
 unfoldable pub startAnswer : List ℕ → ℕ
 startAnswer l = cond (goodBytes l) 0 1
 
-abbrev pub startedNumber : Started → ℕ
-startedNumber Good = 0
-startedNumber BadArea = 1
+abbrev pub started : List ℕ → Started
+started l = record { answer = startAnswer l; row = firstRow l }

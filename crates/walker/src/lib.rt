@@ -8,7 +8,7 @@ use table::permission_at;
 use table::row_at;
 use table::rows_used;
 ghost use mathlib.Core.Path.{_≡_};
-ghost use Rattle.walker.specs.Walk.{Walkable, firstRow, handed, startedNumber, startAnswer};
+ghost use Rattle.walker.specs.Walk.{Walkable, firstRow, handed, started};
 
 pub struct Walker<'a> {
     pub area: &'a [u8],
@@ -23,27 +23,29 @@ pub struct Handed {
     pub next: usize,
 }
 
-// The answer to a start.
-pub enum Started {
-    Good,
-    BadArea,
+// The answer to a start, by document 01's number, and the number of the first row: of a bad area one that no row ever has.
+pub struct Started {
+    pub answer: u32,
+    pub row: usize,
 }
 
-pub fn start_answer(a: &[u8]) -> Started
-    ensures { λ r. ⌜ startedNumber r ≡ startAnswer (now (a .entry)) ⌝ }
+pub fn begin(a: &[u8]) -> Started
+    ensures { λ r. ⌜ r ≡ started (now (a .entry)) ⌝ }
 {
-    if check(a) {
-        Started::Good
-    } else {
-        Started::BadArea
+    if !check(a) {
+        return Started {
+            answer: 1,
+            row: MOST_ROWS,
+        };
     }
+    Started { answer: 0, row: 0 }
 }
 
-// The number of the first row: of a bad area one that no row ever has.
-pub fn first_row(a: &[u8]) -> usize
+fn first_row(a: &[u8]) -> usize
     ensures { λ r. ⌜ r ≡ firstRow (now (a .entry)) ⌝ }
 {
-    if check(a) { 0 } else { MOST_ROWS }
+    let s = begin(a);
+    s.row
 }
 
 // The row of a number, and the number of the next.
