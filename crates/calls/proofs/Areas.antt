@@ -3,9 +3,6 @@ use mathlib.Core.Path.{_≡_, refl, sym, ap, ap₂, _∙_, subst, subst⁻¹}
 use mathlib.Core.List.{List}
 use mathlib.Core.Logic.{_↔_}
 use Prim.Native.Nat.{ℕ, _≤_}
-use borrow.Author.Tests.{le-leb}
-use lib.Dec.{T, leb}
-use Rattle.roles.proofs.Member.{T-and}
 use Rattle.meaning.specs.declared.Happening.{Happening}
 use Rattle.meaning.specs.Events.{Possible, lastPermission}
 use Rattle.meaning.specs.Rows.{blank, rowAfter, Recorded}
@@ -16,11 +13,9 @@ use Rattle.area.proofs.Theorems.{one-state}
 use Rattle.calls.specs.Calls.{valid}
 use Rattle.calls.specs.Histories.{calls, opened, history, eventsOf}
 use Rattle.calls.specs.Demands as demands
+use Rattle.calls.proofs.CallLaws.{valid-law}
 use Rattle.calls.proofs.Invariant.{history-holds}
 use Rattle.calls.proofs.Streams.{swapped-possible, stream-trail}
-
-is-valid : (p : ℕ) → 1 ≤ p → p ≤ lastPermission → T (valid p)
-is-valid p a b = T-and (leb 1 p) (leb p lastPermission) .1 (subst⁻¹ T (le-leb 1 p a) tt, subst⁻¹ T (le-leb p lastPermission b) tt)
 
 pub demand-3 : demands.Demand3
 demand-3 l m n k cs ds o o′ =
@@ -41,7 +36,7 @@ demand-3 l m n k cs ds o o′ =
           let nk : n ≡ k = f .0 in
           let found : (p : ℕ) → 1 ≤ p → p ≤ lastPermission → rowFor p (x .state .rows) ≡ rowFor p (y .state .rows) = λ p a b.
           x .rows p
-          ∙ same-row n (t p) (u p) (x .trail-recorded p) (subst⁻¹ (λ (j : ℕ). Recorded j blank (u p)) nk (y .trail-recorded p)) .1 (λ h. subst⁻¹ (λ (j : ℕ). Possible n (t p) h ↔ Possible j (u p) h) nk (f .1 p (is-valid p a b) h))
+          ∙ same-row n (t p) (u p) (x .trail-recorded p) (subst⁻¹ (λ (j : ℕ). Recorded j blank (u p)) nk (y .trail-recorded p)) .1 (λ h. subst⁻¹ (λ (j : ℕ). Possible n (t p) h ↔ Possible j (u p) h) nk (f .1 p (valid-law p .1 (a, b)) h))
           ∙ sym (y .rows p) in
           let rs : x .state .rows ≡ y .state .rows = rows-ext (x .state .roles) (y .state .roles) 0 (x .state .rows) (y .state .rows) (x .good .good-rows) (y .good .good-rows) found in
           let ns : x .state .roles ≡ y .state .roles = x .roles ∙ nk ∙ sym (y .roles) in

@@ -1,49 +1,32 @@
 -- What each call does on an area that holds a good state. Assumes nothing.
-use mathlib.Core.Path.{_≡_, refl, _∙_, subst, subst⁻¹}
-use mathlib.Core.Bool.{Bool, true, false, not, cond, _||_}
+use mathlib.Core.Path.{_≡_, refl, ap, _∙_, subst⁻¹}
+use mathlib.Core.Bool.{Bool, true, false, not, cond}
 use mathlib.Core.List.{List}
 use mathlib.Core.Logic.{_≢_, _⊎_, inl, inr, ⊎-elim}
-use Prim.Native.Nat.{ℕ, _≤_, _<_}
+use Prim.Native.Nat.{ℕ}
 use native.Mathlib.Omega.{arith}
-use lib.Dec.{T, ltb, leb, leb→le, ltb→lt}
-use lib.ListN.{length}
+use lib.Dec.{T, leb}
 use Rattle.roles.specs.Sets.{allBelow, partOf}
-use Rattle.roles.proofs.Member.{T?, T-and, T-or, T-true, T-false}
+use Rattle.roles.proofs.Member.{T?, T-true, T-false}
 use Rattle.meaning.specs.declared.Happening.{Happening}
-use Rattle.meaning.specs.Events.{known, lastPermission}
+use Rattle.meaning.specs.Events.{known}
 use Rattle.meaning.specs.Rows.{Row, blank, Good, fits, contradicts, step, settle, decide}
 use Rattle.meaning.proofs.Kept.{step-good}
 use Rattle.meaning.proofs.Answers.{settle-law, fits-law}
-use Rattle.area.specs.Layout.{mostRows, goodBytes}
-use Rattle.area.specs.State.{State, isBlank, GoodState, rowFor, withRow, stateOf, areaOf}
+use Rattle.area.specs.Layout.{goodBytes}
+use Rattle.area.specs.State.{State, GoodState, rowFor, withRow, stateOf, areaOf}
 use Rattle.area.proofs.RowLaws.{rowFor-good, put-good, put-most}
 use Rattle.area.proofs.Bytes.{area-good, area-state}
-use Rattle.calls.specs.Calls.{Out, stays, holds, valid, isReply, fitsIn, eventOn, replied, updated, onArea, replyOf, updateOf, decideOf, forgetOf}
+use Rattle.calls.specs.Calls.{Out, stays, holds, valid, isReply, fitsIn, eventOn, eventOf, replied, updated, replyOf, updateOf, decideOf, forgetOf}
+use Rattle.calls.proofs.CallLaws.{valid-law, fitsIn-law, event-unknown, event-contradicts, event-unfit, event-recorded, eventFor, reply-is, update-is, for-no-permission, for-bad-verdict, for-good, decide-bad-area, decide-no-permission, decide-unknown, decide-decides, forget-no-permission, forget-forgets}
 
 -- ---- states with another row
-
-T-not-not : (b : Bool) → T (not (not b)) → T b
-T-not-not true t = tt
-T-not-not false t = t
-
-valid-law : (p : ℕ) → T (valid p) → (1 ≤ p) × (p ≤ lastPermission)
-valid-law p h = let q = T-and (leb 1 p) (leb p lastPermission) .0 h in (leb→le 1 p (q .0), leb→le p lastPermission (q .1))
-
-fitsIn-law : (s : State) (p : ℕ) (w : Row) → T (fitsIn s p w) → T (fits w) × (isBlank (rowFor p (s .rows)) ≡ true → isBlank w ≡ false → length (s .rows) < mostRows)
-unfolding fitsIn
-fitsIn-law s p w h =
-    let q = T-and (fits w) (ltb (length (s .rows)) mostRows || (not (isBlank (rowFor p (s .rows))) || isBlank w)) .0 h in (
-      q .0,
-      λ a b. ⊎-elim (ltb→lt (length (s .rows)) mostRows)
-          (λ t. absurd (⊎-elim (λ u. subst (λ (x : Bool). T (not x)) a u) (λ u. subst T b u) (T-or (not (isBlank (rowFor p (s .rows)))) (isBlank w) .0 t)))
-          (T-or (ltb (length (s .rows)) mostRows) (not (isBlank (rowFor p (s .rows))) || isBlank w) .0 (q .1)),
-    )
 
 module _ (s : State) (g : GoodState s) (p : ℕ) (v : T (valid p)) where
   -- a row that fits gives a good state
   pub put-state : (w : Row) → Good (s .roles) w → T (fitsIn s p w) → GoodState (withRow s p w)
   put-state w gw f =
-      let b = valid-law p v in
+      let b = valid-law p .0 v in
       let q = fitsIn-law s p w f in
       record {
         some-roles = g .some-roles;
@@ -56,7 +39,7 @@ module _ (s : State) (g : GoodState s) (p : ℕ) (v : T (valid p)) where
   -- so does no row
   pub drop-state : GoodState (withRow s p blank)
   drop-state =
-      let b = valid-law p v in
+      let b = valid-law p .0 v in
       record {
         some-roles = g .some-roles;
         most-roles = g .most-roles;
@@ -74,67 +57,73 @@ pub data Outcome (s : State) (p : ℕ) (e : Happening) : Out → Type 0 where
   forgotten : GoodState (withRow s p blank) → Outcome s p e (holds 8 (withRow s p blank))
 
 module _ (s : State) (g : GoodState s) (p : ℕ) where
-  refused-cond : (e : Happening) (b : Bool) (a : ℕ) (o : Out) → a ≢ 0 → a ≢ 8 → (T (not b) → Outcome s p e o) → Outcome s p e (cond b (stays a (areaOf s)) o)
-  refused-cond e true a o x y f = refused a x y
-  refused-cond e false a o x y f = f tt
-
-  -- neither contradicted nor unknown: recorded where it fits, and else refused or forgotten
-  fitting : T (valid p) → (e : Happening) → T (known (s .roles) e) → T (not (contradicts e (rowFor p (s .rows)))) → (b : Bool) → fitsIn s p (step e (rowFor p (s .rows))) ≡ b → (r : Bool)
-      → Outcome s p e (cond (not b) (cond r (stays 7 (areaOf s)) (holds 8 (withRow s p blank))) (holds 0 (withRow s p (step e (rowFor p (s .rows))))))
-  fitting v e k c true q r =
-      let w = rowFor p (s .rows) in
-      let gw = rowFor-good (s .roles) 0 p (s .rows) (g .good-rows) in
-      let f = subst⁻¹ T q tt in
-      recorded k (settle-law (s .roles) e w gw k .recorded .1 (c, fits-law (step e w) .0 (fitsIn-law s p (step e w) f .0)))
-      (put-state s g p v (step e w) (step-good (s .roles) w e gw k c) f)
-  fitting v e k c false q true = refused 7 (λ z. omega arith) (λ z. omega arith)
-  fitting v e k c false q false = forgotten (drop-state s g p v)
+  -- the area of s is good, and its state is s
+  good : goodBytes (areaOf s) ≡ true
+  good = T-true (goodBytes (areaOf s)) (area-good s g)
 
   event-on : T (valid p) → (e : Happening) → Outcome s p e (eventOn (areaOf s) s p e (rowFor p (s .rows)))
-  unfolding eventOn
-  event-on v e =
-      refused-cond e (not (known (s .roles) e)) 4 _ (λ q. omega arith) (λ q. omega arith) (λ k.
-      refused-cond e (contradicts e (rowFor p (s .rows))) 6 _ (λ q. omega arith) (λ q. omega arith) (λ c.
-      fitting v e (T-not-not (known (s .roles) e) k) c (fitsIn s p (step e (rowFor p (s .rows)))) refl (isReply e)))
+  event-on v e = go (known (s .roles) e) refl (contradicts e w) refl (fitsIn s p (step e w)) refl
+    where
+      w : Row
+      w = rowFor p (s .rows)
 
-  -- the calls, on the area of a good state
-  on-area : (o : List ℕ → State → Out) → onArea (areaOf s) p (o (areaOf s) (stateOf (areaOf s))) ≡ cond (not (valid p)) (stays 3 (areaOf s)) (o (areaOf s) s)
-  unfolding onArea
-  on-area o = rw (T-true (goodBytes (areaOf s)) (area-good s g), area-state s g)
+      full-or-forgotten : (r : Bool) → Outcome s p e (cond r (stays 7 (areaOf s)) (holds 8 (withRow s p blank)))
+      full-or-forgotten true = refused 7 (λ z. omega arith) (λ z. omega arith)
+      full-or-forgotten false = forgotten (drop-state s g p v)
+
+      go : (k : Bool) → known (s .roles) e ≡ k → (c : Bool) → contradicts e w ≡ c → (f : Bool) → fitsIn s p (step e w) ≡ f → Outcome s p e (eventOn (areaOf s) s p e w)
+      go false k c x f y = subst⁻¹ (Outcome s p e) (event-unknown (areaOf s) s p e w k) (refused 4 (λ z. omega arith) (λ z. omega arith))
+      go true k true x f y = subst⁻¹ (Outcome s p e) (event-contradicts (areaOf s) s p e w k x) (refused 6 (λ z. omega arith) (λ z. omega arith))
+      go true k false x false y = subst⁻¹ (Outcome s p e) (event-unfit (areaOf s) s p e w k x y) (full-or-forgotten (isReply e))
+      go true k false x true y =
+          let gw = rowFor-good (s .roles) 0 p (s .rows) (g .good-rows) in
+          let kn : T (known (s .roles) e) = subst⁻¹ T k tt in
+          let no : T (not (contradicts e w)) = subst⁻¹ (λ (b : Bool). T (not b)) x tt in
+          let fit : T (fitsIn s p (step e w)) = subst⁻¹ T y tt in
+          subst⁻¹ (Outcome s p e) (event-recorded (areaOf s) s p e w k x y)
+          (recorded kn (settle-law (s .roles) e w gw kn .recorded .1 (no, fits-law (step e w) .0 (fitsIn-law s p (step e w) fit .0)))
+          (put-state s g p v (step e w) (step-good (s .roles) w e gw kn no) fit))
+
+  pub event-is : (e : Happening) → eventOf (areaOf s) p e ≡ eventOn (areaOf s) s p e (rowFor p (s .rows))
+  event-is e = ap (λ (u : State). eventOn (areaOf s) u p e (rowFor p (u .rows))) (area-state s g)
+
+  -- a reply or an update
+  event-for : (v : ℕ) (e : Happening) → Outcome s p e (eventFor (areaOf s) p v e)
+  event-for v e = go (valid p) refl (leb v 1) refl
+    where
+      go : (a : Bool) → valid p ≡ a → (b : Bool) → leb v 1 ≡ b → Outcome s p e (eventFor (areaOf s) p v e)
+      go false a b x = subst⁻¹ (Outcome s p e) (for-no-permission (areaOf s) p v e good a) (refused 3 (λ z. omega arith) (λ z. omega arith))
+      go true a false x = subst⁻¹ (Outcome s p e) (for-bad-verdict (areaOf s) p v e good a x) (refused 5 (λ z. omega arith) (λ z. omega arith))
+      go true a true x = subst⁻¹ (Outcome s p e) (for-good (areaOf s) p v e good a x ∙ event-is e) (event-on (subst⁻¹ T a tt) e)
 
   pub reply-on : (v t : ℕ) → Outcome s p (replied v t) (replyOf (areaOf s) p v t)
-  unfolding replyOf
-  reply-on v t =
-      subst⁻¹ (Outcome s p (replied v t)) (on-area (λ l u. cond (not (leb v 1)) (stays 5 l) (eventOn l u p (replied v t) (rowFor p (u .rows)))))
-      (refused-cond (replied v t) (not (valid p)) 3 _ (λ q. omega arith) (λ q. omega arith) (λ ok.
-      refused-cond (replied v t) (not (leb v 1)) 5 _ (λ q. omega arith) (λ q. omega arith) (λ b. event-on (T-not-not (valid p) ok) (replied v t))))
+  reply-on v t = subst⁻¹ (Outcome s p (replied v t)) (reply-is (areaOf s) p v t) (event-for v (replied v t))
 
   pub update-on : (k r : ℕ) → Outcome s p (updated k r) (updateOf (areaOf s) p k r)
-  unfolding updateOf
-  update-on k r =
-      subst⁻¹ (Outcome s p (updated k r)) (on-area (λ l u. cond (not (leb k 1)) (stays 5 l) (eventOn l u p (updated k r) (rowFor p (u .rows)))))
-      (refused-cond (updated k r) (not (valid p)) 3 _ (λ q. omega arith) (λ q. omega arith) (λ ok.
-      refused-cond (updated k r) (not (leb k 1)) 5 _ (λ q. omega arith) (λ q. omega arith) (λ b. event-on (T-not-not (valid p) ok) (updated k r))))
+  update-on k r = subst⁻¹ (Outcome s p (updated k r)) (update-is (areaOf s) p k r) (event-for k (updated k r))
 
   pub decide-on : (t : ℕ) → T (valid p) → T (partOf t (allBelow (s .roles))) → decideOf (areaOf s) p t ≡ stays (decide (rowFor p (s .rows)) t) (areaOf s)
-  unfolding decideOf
   decide-on t v b =
-      on-area (λ l u. cond (not (partOf t (allBelow (u .roles)))) (stays 4 l) (stays (decide (rowFor p (u .rows)) t) l))
-      ∙ rw (T-true (valid p) v, T-true (partOf t (allBelow (s .roles))) b)
+      let st : stateOf (areaOf s) ≡ s = area-state s g in
+      decide-decides (areaOf s) p t good (T-true (valid p) v) (ap (λ (u : State). partOf t (allBelow (u .roles))) st ∙ T-true (partOf t (allBelow (s .roles))) b)
+      ∙ ap (λ (u : State). stays (decide (rowFor p (u .rows)) t) (areaOf s)) st
 
   pub forget-on : (forgetOf (areaOf s) p ≡ stays 3 (areaOf s)) ⊎ (T (valid p) × (forgetOf (areaOf s) p ≡ holds 0 (withRow s p blank)))
-  unfolding forgetOf
   forget-on =
-      let e = on-area (λ l u. holds 0 (withRow u p blank)) in
-      ⊎-elim (λ v. inr (v, e ∙ rw (T-true (valid p) v))) (λ v. inl (e ∙ rw (T-false (valid p) v))) (T? (valid p))
+      ⊎-elim
+      (λ v. inr (v, forget-forgets (areaOf s) p good (T-true (valid p) v) ∙ ap (λ (u : State). holds 0 (withRow u p blank)) (area-state s g)))
+      (λ v. inl (forget-no-permission (areaOf s) p good (T-false (valid p) v)))
+      (T? (valid p))
 
 -- a decision changes nothing
 pub decide-stays : (l : List ℕ) (p t : ℕ) → decideOf l p t .area ≡ l
-unfolding decideOf onArea
-decide-stays l p t = go (not (goodBytes l)) (not (valid p)) (not (partOf t (allBelow (stateOf l .roles))))
+decide-stays l p t = go (goodBytes l) refl (valid p) refl (partOf t (allBelow (stateOf l .roles))) refl
   where
-    go : (a b c : Bool) → cond a (stays 1 l) (cond b (stays 3 l) (cond c (stays 4 l) (stays (decide (rowFor p (stateOf l .rows)) t) l))) .area ≡ l
-    go true b c = refl
-    go false true c = refl
-    go false false true = refl
-    go false false false = refl
+    same : (a : ℕ) → decideOf l p t ≡ stays a l → decideOf l p t .area ≡ l
+    same a e = ap (λ (o : Out). o .area) e
+
+    go : (a : Bool) → goodBytes l ≡ a → (b : Bool) → valid p ≡ b → (c : Bool) → partOf t (allBelow (stateOf l .roles)) ≡ c → decideOf l p t .area ≡ l
+    go false a b v c k = same 1 (decide-bad-area l p t a)
+    go true a false v c k = same 3 (decide-no-permission l p t a v)
+    go true a true v false k = same 4 (decide-unknown l p t a v k)
+    go true a true v true k = same _ (decide-decides l p t a v k)
