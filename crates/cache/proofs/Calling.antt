@@ -1,6 +1,6 @@
 -- What is known at the front of a call, and the answers of a decision and of an opening. Assumes nothing.
 use mathlib.Core.Path.{_≡_, refl, sym, ap, ap₂, _∙_, subst⁻¹}
-use mathlib.Core.Bool.{Bool, true, false, not, cond, _&&_, _||_}
+use mathlib.Core.Bool.{Bool, true, false, not, _&&_, _||_}
 use mathlib.Core.List.{List, []}
 use Prim.Native.Nat.{ℕ, _≤_}
 use native.Mathlib.Decide.{decLt}
@@ -9,7 +9,7 @@ use lib.Dec.{T, eqb, ltb, leb, ltb→lt, lt→ltb}
 use lib.ListN.{length}
 use borrow.Author.Tests.{eq-eqb, ne-eqb, le-leb, lt-leb, lt-ltb, le-ltb}
 use Rattle.roles.specs.Sets.{single, allBelow, partOf, mostRoles}
-use Rattle.roles.proofs.Member.{T-ext}
+use Rattle.roles.proofs.Member.{T-true, T-ext}
 use Rattle.roles.proofs.Laws.{partOf-allBelow, single-below, below-single}
 use Rattle.meaning.specs.Rows as meaning
 use Rattle.meaning.specs.Rows.{decide, mostOpens}
@@ -22,9 +22,10 @@ use Rattle.area.specs.State.{rowFor, stateOf, areaOf}
 use Rattle.area.proofs.RowLaws.{rowFor-few}
 use Rattle.area.proofs.Bytes.{good-state}
 use Rattle.table.specs.Table.{rowsIn, Sound}
-use Rattle.calls.specs.Calls.{stays, holds, valid, openOf, onArea, decideOf}
+use Rattle.calls.specs.Calls.{Out, stays, valid, openOf, decideOf}
 use Rattle.calls.specs.Answers.{Gives}
 use Rattle.calls.specs.declared.Answer.the-variants.{Recorded, BadArea, BadRoleCount}
+use Rattle.calls.proofs.CallLaws.{valid-law, open-bad-area, open-bad-count, open-recorded, decide-bad-area, decide-no-permission, decide-unknown, decide-decides}
 use Rattle.cache.proofs.Ladder.{gives}
 
 -- ---- by value
@@ -53,7 +54,7 @@ pub is-true : (b : Bool) → b ≡ true → T b
 is-true b e = subst⁻¹ T e tt
 
 pub is-valid : (p : ℕ) → (p ≡ 0 → ⊥) → p ≤ lastPermission → valid p ≡ true
-is-valid p h k = ap₂ (λ (a b : Bool). a && b) (le-leb 1 p (omega arith)) (le-leb p lastPermission k)
+is-valid p h k = T-true (valid p) (valid-law p .1 (omega arith, k))
 
 pub not-valid : (p : ℕ) → p ≡ 0 → valid p ≡ false
 not-valid p h = ap (λ (k : ℕ). valid k) h
@@ -67,22 +68,17 @@ set-known-at l n s b t q h k = sym (ap (λ (x : ℕ). partOf s (allBelow x)) q) 
 -- ---- a decision
 
 module _ (l : List ℕ) (p s : ℕ) where
-  decided : (a b k : Bool) → goodBytes l ≡ a → valid p ≡ b → partOf s (allBelow (stateOf l .roles)) ≡ k
-      → cond (not a) (stays 1 l) (cond (not b) (stays 3 l) (cond (not k) (stays 4 l) (stays (decide (rowFor p (rowsIn l)) s) l))) .answer ≡ decideOf l p s .answer
-  unfolding decideOf onArea
-  decided a b k e f g = sym (λ i. cond (not (e i)) (stays 1 l) (cond (not (f i)) (stays 3 l) (cond (not (g i)) (stays 4 l) (stays (decide (rowFor p (rowsIn l)) s) l))) .answer)
-
   pub decide-1 : goodBytes l ≡ false → 1 ≡ decideOf l p s .answer
-  decide-1 h = decided false (valid p) (partOf s (allBelow (stateOf l .roles))) h refl refl
+  decide-1 h = sym (ap (λ (o : Out). o .answer) (decide-bad-area l p s h))
 
   pub decide-3 : goodBytes l ≡ true → valid p ≡ false → 3 ≡ decideOf l p s .answer
-  decide-3 h v = decided true false (partOf s (allBelow (stateOf l .roles))) h v refl
+  decide-3 h v = sym (ap (λ (o : Out). o .answer) (decide-no-permission l p s h v))
 
   pub decide-4 : goodBytes l ≡ true → valid p ≡ true → partOf s (allBelow (stateOf l .roles)) ≡ false → 4 ≡ decideOf l p s .answer
-  decide-4 h v k = decided true true false h v k
+  decide-4 h v k = sym (ap (λ (o : Out). o .answer) (decide-unknown l p s h v k))
 
   pub decide-go : goodBytes l ≡ true → valid p ≡ true → partOf s (allBelow (stateOf l .roles)) ≡ true → decide (rowFor p (rowsIn l)) s ≡ decideOf l p s .answer
-  decide-go h v k = decided true true true h v k
+  decide-go h v k = sym (ap (λ (o : Out). o .answer) (decide-decides l p s h v k))
 
 -- ---- opening
 
@@ -100,16 +96,11 @@ count-is : (n : ℕ) (b : Bool) → (ltb n 1 || ltb mostRoles n) ≡ b → (leb 
 count-is n b e = ap₂ (λ (x y : Bool). x && y) (leb-not 1 n) (leb-not n mostRoles) ∙ neither (ltb n 1) (ltb mostRoles n) ∙ ap not e
 
 module _ (l : List ℕ) (n : ℕ) where
-  opens : (a b : Bool) → eqb (length l) areaBytes ≡ a → (leb 1 n && leb n mostRoles) ≡ b
-      → openOf l n ≡ cond (not a) (stays 1 l) (cond (not b) (stays 2 l) (holds 0 (record { roles = n; rows = [] })))
-  unfolding openOf
-  opens a b e f = λ i. cond (not (e i)) (stays 1 l) (cond (not (f i)) (stays 2 l) (holds 0 (record { roles = n; rows = [] })))
-
   pub open-1 : (length l ≡ areaBytes → ⊥) → Gives (openOf l n) BadArea l
-  open-1 h = gives (openOf l n) BadArea l (opens false (leb 1 n && leb n mostRoles) (ne-eqb (length l) areaBytes h) refl)
+  open-1 h = gives (openOf l n) BadArea l (open-bad-area l n (ne-eqb (length l) areaBytes h))
 
   pub open-2 : length l ≡ areaBytes → (ltb n 1 || ltb mostRoles n) ≡ true → Gives (openOf l n) BadRoleCount l
-  open-2 h k = gives (openOf l n) BadRoleCount l (opens true false (eq-eqb (length l) areaBytes h) (count-is n true k))
+  open-2 h k = gives (openOf l n) BadRoleCount l (open-bad-count l n (eq-eqb (length l) areaBytes h) (count-is n true k))
 
   pub open-go : (m : List ℕ) → length l ≡ areaBytes → (ltb n 1 || ltb mostRoles n) ≡ false → m ≡ areaOf (record { roles = n; rows = [] }) → Gives (openOf l n) Recorded m
-  open-go m h k e = gives (openOf l n) Recorded m (opens true true (eq-eqb (length l) areaBytes h) (count-is n false k) ∙ ap (stays 0) (sym e))
+  open-go m h k e = gives (openOf l n) Recorded m (open-recorded l n (eq-eqb (length l) areaBytes h) (count-is n false k) ∙ ap (stays 0) (sym e))

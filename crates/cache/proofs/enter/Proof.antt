@@ -11,8 +11,9 @@ use Rattle.area.specs.State.{rowFor, stateOf}
 use Rattle.table.specs.Table.{rowsIn}
 use Rattle.calls.specs.declared.Answer.the-variants.{UnknownRole}
 use Rattle.calls.specs.Calls.{eventOf}
+use Rattle.calls.proofs.CallLaws.{event-unknown}
 use Rattle.cache.proofs.Calling.{is-true, roles-few}
-use Rattle.cache.proofs.Ladder.{gives, unknown}
+use Rattle.cache.proofs.Ladder.{gives}
 use Rattle.cache.proofs.enter.Statement.{statement}
 use Rattle.cache.proofs.enter.Tie as tie
 
@@ -31,7 +32,7 @@ returns c =
     let s = g .before .before .before in
     let l = s .args .a .now in
     gives (eventOf l (s .args .event .permission) (s .args .event .happening)) UnknownRole l
-    (unknown l (stateOf l) (s .args .event .permission) (s .args .event .happening) (rowFor (s .args .event .permission) (rowsIn l)) (known-at l (g .role-count .result) (s .args .event .happening) _ _ (g .role-count .ensures) (k .is-known .ensures) (not-true _ (c .if1 .taken))))
+    (event-unknown l (stateOf l) (s .args .event .permission) (s .args .event .happening) (rowFor (s .args .event .permission) (rowsIn l)) (known-at l (g .role-count .result) (s .args .event .happening) _ _ (g .role-count .ensures) (k .is-known .ensures) (not-true _ (c .if1 .taken))))
 
 enter-over-requires : tie.Need-enter-over-requires
 enter-over-requires c κs =

@@ -16,7 +16,8 @@ use Rattle.calls.specs.declared.Answer.the-variants.{Recorded, Contradiction, F
 use Rattle.calls.specs.Calls.{stays, eventOf}
 use Rattle.calls.specs.Answers.{Gives}
 use Rattle.roles.proofs.Member.{T-true}
-use Rattle.cache.proofs.Ladder.{gives, fitsIn-over, placed, Entered, entered}
+use Rattle.calls.proofs.CallLaws.{fitsIn-over, event-recorded}
+use Rattle.cache.proofs.Ladder.{gives, Entered, entered}
 use Rattle.cache.proofs.Writes.{row-inside, row-there, row-says, read-tidy, known-64, answered, settled-row, settled-tidy}
 use Rattle.cache.proofs.enter_over.Statement.{statement}
 use Rattle.cache.proofs.enter_over.Tie as tie
@@ -39,7 +40,7 @@ module _ (l : List ℕ) (s : Sound l) (p i : ℕ) (e : Happening) (f : foundFor 
   done : (w : Row) (m : List ℕ) → settle e (rowFor p (rowsIn l)) .answer ≡ 0 → w ≡ settle e (rowFor p (rowsIn l)) .row → m ≡ areaOf (withRow (stateOf l) p w) → Gives (eventOf l p e) Recorded m
   done w m a r q =
       gives (eventOf l p e) Recorded m
-      (placed l (stateOf l) p e (rowFor p (rowsIn l)) (T-true (known (stateOf l .roles) e) k) (law .agrees a) (fitsIn-over (stateOf l) p (step e (rowFor p (rowsIn l))) (law .fitting a) (row-says l s p i f))
+      (event-recorded l (stateOf l) p e (rowFor p (rowsIn l)) (T-true (known (stateOf l .roles) e) k) (law .agrees a) (fitsIn-over (stateOf l) p (step e (rowFor p (rowsIn l))) (law .fitting a) (row-says l s p i f))
       ∙ ap (stays 0) (sym (q ∙ ap (λ (x : Row). areaOf (withRow (stateOf l) p x)) (r ∙ law .row a))))
 
 -- ---- the needs

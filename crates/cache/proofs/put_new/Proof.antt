@@ -24,7 +24,8 @@ use Rattle.calls.specs.Answers.{numberOf, Gives}
 use Rattle.cache.specs.Fresh.{Fresh}
 use Rattle.roles.proofs.Member.{T-true, T-false}
 use Rattle.cache.proofs.Places.{bytes-are}
-use Rattle.cache.proofs.Ladder.{gives, fitsIn-blank, fitsIn-room, fitsIn-none, placed, no-place}
+use Rattle.calls.proofs.CallLaws.{fitsIn-blank, fitsIn-room, fitsIn-none, event-unfit, event-recorded}
+use Rattle.cache.proofs.Ladder.{gives}
 use Rattle.cache.proofs.Writes.{place-inside, row-none, event-none, state-new, area-kept, fitting-tidy}
 use Rattle.cache.proofs.put_new.Statement.{statement}
 use Rattle.cache.proofs.put_new.Tie as tie
@@ -51,7 +52,7 @@ module _ (l : List ℕ) (s : Sound l) (p i : ℕ) (e : Happening) (w : value.Row
   nothing bytes b =
       let q = sym (ap isBlank same) ∙ b in
       gives (eventOf l p e) Recorded l
-      (event-none l s p i f e ∙ placed l (stateOf l) p e blank knows clear (fitsIn-blank (stateOf l) p (step e blank) room q) ∙ ap (stays 0) (area-kept l s p i f (step e blank) q bytes))
+      (event-none l s p i f e ∙ event-recorded l (stateOf l) p e blank knows clear (fitsIn-blank (stateOf l) p (step e blank) room q) ∙ ap (stays 0) (area-kept l s p i f (step e blank) q bytes))
 
   either : (b : Bool) → cond b (stays 7 l) (stays 8 l) ≡ stays (cond b 7 8) l
   either true = refl
@@ -61,7 +62,7 @@ module _ (l : List ℕ) (s : Sound l) (p i : ℕ) (e : Happening) (w : value.Row
   no-more bytes b m r q =
       gives (eventOf l p e) r l
       (event-none l s p i f e
-      ∙ no-place l (stateOf l) p e blank knows clear (fitsIn-none (stateOf l) p (step e blank) room empty (sym (ap isBlank same) ∙ b) m)
+      ∙ event-unfit l (stateOf l) p e blank knows clear (fitsIn-none (stateOf l) p (step e blank) room empty (sym (ap isBlank same) ∙ b) m)
       ∙ ap (λ (o : Out). cond (isReply e) (stays 7 l) o) (ap (stays 8) (area-kept l s p i f blank refl bytes))
       ∙ either (isReply e)
       ∙ ap (λ (a : ℕ). stays a l) (sym q))
@@ -70,7 +71,7 @@ module _ (l : List ℕ) (s : Sound l) (p i : ℕ) (e : Happening) (w : value.Row
   made m u q =
       gives (eventOf l p e) Recorded m
       (event-none l s p i f e
-      ∙ placed l (stateOf l) p e blank knows clear (fitsIn-room (stateOf l) p (step e blank) room u)
+      ∙ event-recorded l (stateOf l) p e blank knows clear (fitsIn-room (stateOf l) p (step e blank) room u)
       ∙ ap (stays 0) (sym (q ∙ ap (λ (x : Row). areaOf (withRow (stateOf l) p x)) same)))
 
 -- ---- the needs

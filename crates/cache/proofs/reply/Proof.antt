@@ -6,7 +6,8 @@ use native.Mathlib.Omega.{arith}
 use Rattle.table.proofs.RowWords.{sound}
 use Rattle.calls.specs.Calls.{replied}
 use Rattle.cache.proofs.Calling.{is-true, is-valid, not-valid}
-use Rattle.cache.proofs.Fronts.{event-1, event-3, event-5, event-go, reply-is, reply-one, reply-zero}
+use Rattle.calls.proofs.CallLaws.{reply-is, replied-one, replied-other}
+use Rattle.cache.proofs.Fronts.{event-1, event-3, event-5, event-go}
 use Rattle.cache.proofs.reply.Statement.{statement}
 use Rattle.cache.proofs.reply.Tie as tie
 
@@ -45,7 +46,7 @@ returns-4 c =
     let k = t .before .before in
     let s = k .before .before .before in
     event-go (s .args .a .now) (s .args .p) (s .args .verdict) (replied (s .args .verdict) (s .args .s)) _ (reply-is (s .args .a .now) (s .args .p) (s .args .verdict) (s .args .s)) _ _ _ (sym (k .check .ensures) ∙ not-false _ (t .before .if1 .left))
-    (is-valid (s .args .p) (t .if2 .left) (omega arith)) (u .before .if3 .left) (reply-one (s .args .verdict) _ (u .if4 .taken)) (w .enter .ensures)
+    (is-valid (s .args .p) (t .if2 .left) (omega arith)) (u .before .if3 .left) (replied-one (s .args .verdict) _ (u .if4 .taken)) (w .enter .ensures)
 
 enter-requires-2 : tie.Need-enter-requires-2
 enter-requires-2 c κs =
@@ -62,7 +63,7 @@ returns-5 c =
     let k = t .before .before in
     let s = k .before .before .before in
     event-go (s .args .a .now) (s .args .p) (s .args .verdict) (replied (s .args .verdict) (s .args .s)) _ (reply-is (s .args .a .now) (s .args .p) (s .args .verdict) (s .args .s)) _ _ _ (sym (k .check .ensures) ∙ not-false _ (t .before .if1 .left))
-    (is-valid (s .args .p) (t .if2 .left) (omega arith)) (u .before .if3 .left) (reply-zero (s .args .verdict) _ (u .if4 .left)) (w .enter2 .ensures)
+    (is-valid (s .args .p) (t .if2 .left) (omega arith)) (u .before .if3 .left) (replied-other (s .args .verdict) _ (u .if4 .left)) (w .enter2 .ensures)
 
 pub reply-spec : {M : Type 1} → statement M
 reply-spec =

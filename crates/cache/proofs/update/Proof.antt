@@ -6,7 +6,8 @@ use native.Mathlib.Omega.{arith}
 use Rattle.table.proofs.RowWords.{sound}
 use Rattle.calls.specs.Calls.{updated}
 use Rattle.cache.proofs.Calling.{is-true, is-valid, not-valid}
-use Rattle.cache.proofs.Fronts.{event-1, event-3, event-5, event-go, update-is, update-one, update-zero}
+use Rattle.calls.proofs.CallLaws.{update-is, updated-one, updated-other}
+use Rattle.cache.proofs.Fronts.{event-1, event-3, event-5, event-go}
 use Rattle.cache.proofs.update.Statement.{statement}
 use Rattle.cache.proofs.update.Tie as tie
 
@@ -45,7 +46,7 @@ returns-4 c =
     let k = t .before .before in
     let s = k .before .before .before in
     event-go (s .args .a .now) (s .args .p) (s .args .kind) (updated (s .args .kind) (s .args .role)) _ (update-is (s .args .a .now) (s .args .p) (s .args .kind) (s .args .role)) _ _ _ (sym (k .check .ensures) ∙ not-false _ (t .before .if1 .left))
-    (is-valid (s .args .p) (t .if2 .left) (omega arith)) (u .before .if3 .left) (update-one (s .args .kind) (s .args .role) (u .if4 .taken)) (w .enter .ensures)
+    (is-valid (s .args .p) (t .if2 .left) (omega arith)) (u .before .if3 .left) (updated-one (s .args .kind) (s .args .role) (u .if4 .taken)) (w .enter .ensures)
 
 enter-requires-2 : tie.Need-enter-requires-2
 enter-requires-2 c κs =
@@ -62,7 +63,7 @@ returns-5 c =
     let k = t .before .before in
     let s = k .before .before .before in
     event-go (s .args .a .now) (s .args .p) (s .args .kind) (updated (s .args .kind) (s .args .role)) _ (update-is (s .args .a .now) (s .args .p) (s .args .kind) (s .args .role)) _ _ _ (sym (k .check .ensures) ∙ not-false _ (t .before .if1 .left))
-    (is-valid (s .args .p) (t .if2 .left) (omega arith)) (u .before .if3 .left) (update-zero (s .args .kind) (s .args .role) (u .if4 .left)) (w .enter2 .ensures)
+    (is-valid (s .args .p) (t .if2 .left) (omega arith)) (u .before .if3 .left) (updated-other (s .args .kind) (s .args .role) (u .if4 .left)) (w .enter2 .ensures)
 
 pub update-spec : {M : Type 1} → statement M
 update-spec =
