@@ -1,4 +1,5 @@
-/* The readings of document 01, the order of refusals, the layout rules, and the memory around the lent area. */
+/* The header's numbers, the readings of document 01, the order of refusals, the layout rules, and the memory around the
+ * lent area. */
 #define _DEFAULT_SOURCE
 #include "groups.h"
 #include "second.h"
@@ -7,7 +8,13 @@
 #include <string.h>
 #include <sys/mman.h>
 
-enum { BYTES = WICKTHRUSH_AREA_BYTES, WORDS = BYTES / 8, ROWS = 128, OPENS = 15 };
+enum {
+    BYTES = WICKTHRUSH_AREA_BYTES,
+    WORDS = BYTES / 8,
+    ROLES = WICKTHRUSH_MOST_ROLES,
+    ROWS = WICKTHRUSH_MOST_ROWS,
+    OPENS = WICKTHRUSH_MOST_OPEN_SETS
+};
 
 static uint8_t area[BYTES], before[BYTES];
 
@@ -15,6 +22,44 @@ static uint8_t area[BYTES], before[BYTES];
 #define BIT(role) (UINT64_C(1) << (role))
 #define SET2(a, b) (BIT(a) | BIT(b))
 #define SET3(a, b, c) (BIT(a) | BIT(b) | BIT(c))
+
+/* ---- the header */
+
+/* The second program has its numbers from document 01, not from the header. */
+static void header_numbers(void)
+{
+    static const struct {
+        const char *name;
+        unsigned long number, expected;
+    } numbers[] = {
+#define NUMBER(name, expected) {#name, WICKTHRUSH_##name, expected}
+        NUMBER(AREA_BYTES, SECOND_BYTES),
+        NUMBER(MOST_ROLES, SECOND_MOST_ROLES),
+        NUMBER(MOST_ROWS, SECOND_ROWS),
+        NUMBER(MOST_OPEN_SETS, SECOND_OPENS),
+        NUMBER(REPLY_DENY, 0),
+        NUMBER(REPLY_ALLOW, 1),
+        NUMBER(WITHDRAWN, 0),
+        NUMBER(GIVEN, 1),
+        NUMBER(RECORDED, 0),
+        NUMBER(BAD_AREA, 1),
+        NUMBER(BAD_ROLE_COUNT, 2),
+        NUMBER(NO_PERMISSION, 3),
+        NUMBER(UNKNOWN_ROLE, 4),
+        NUMBER(BAD_VERDICT, 5),
+        NUMBER(CONTRADICTION, 6),
+        NUMBER(FULL, 7),
+        NUMBER(FORGOTTEN, 8),
+        NUMBER(DENY, 10),
+        NUMBER(ALLOW, 11),
+        NUMBER(UNDECIDED, 12),
+#undef NUMBER
+    };
+    group("the header's numbers");
+    for (size_t i = 0; i < sizeof numbers / sizeof numbers[0]; i++)
+        check(numbers[i].number == numbers[i].expected, "WICKTHRUSH_%s is %lu instead of %lu", numbers[i].name,
+              numbers[i].number, numbers[i].expected);
+}
 
 /* ---- readings */
 
@@ -113,9 +158,10 @@ static void table_of_readings(void)
 
 static void role_counts(void)
 {
-    static const uint64_t bad[] = {0, 65, 66, 128, 255, 256, 257, BIT(32), BIT(32) + 8, BIT(63), UINT64_MAX};
+    static const uint64_t bad[] = {
+        0, ROLES + 1, ROLES + 2, 128, 255, 256, 257, BIT(32), BIT(32) + 8, BIT(63), UINT64_MAX};
     group("role counts");
-    for (uint64_t n = 1; n <= 64; n++) {
+    for (uint64_t n = 1; n <= ROLES; n++) {
         open_area(n);
         check(word(0) == n && word(1) == 0, "open with %llu roles writes other words", (unsigned long long)n);
         for (uint64_t kind = 0; kind <= 1; kind++) {
@@ -127,7 +173,7 @@ static void role_counts(void)
                   (unsigned long long)n - 1);
             check(wickthrush_update(area, BYTES, 5, kind, n) == 4, "role %llu of as many is known",
                   (unsigned long long)n);
-            if (n < 64)
+            if (n < ROLES)
                 check(wickthrush_reply(area, BYTES, 5, kind, BIT(n)) == 4, "a set with role %llu of as many",
                       (unsigned long long)n);
         }
@@ -145,7 +191,7 @@ static void open_sets(void)
 {
     static uint8_t empty[BYTES];
     group("15 open sets fit");
-    for (uint64_t n = 16; n <= 64; n++) {
+    for (uint64_t n = 16; n <= ROLES; n++) {
         uint64_t last = n - 1, low = n - 16;
         open_area(n);
         memcpy(empty, area, BYTES);
@@ -636,6 +682,7 @@ static void guard_pages(void)
 
 int main(void)
 {
+    header_numbers();
     table_of_readings();
     role_counts();
     open_sets();

@@ -151,7 +151,7 @@ uint32_t second_open(struct second *second, size_t len, uint64_t n)
 {
     if (len != SECOND_BYTES)
         return 1;
-    if (n < 1 || n > 64)
+    if (n < 1 || n > SECOND_MOST_ROLES)
         return 2;
     if (n > SECOND_ROLES)
         abort();
@@ -313,7 +313,7 @@ bool second_good(const uint8_t *area)
 {
     uint64_t n = second_word(area, 0);
     uint64_t used = second_word(area, 1);
-    if (n < 1 || n > 64 || used > SECOND_ROWS)
+    if (n < 1 || n > SECOND_MOST_ROLES || used > SECOND_ROWS)
         return false;
     for (size_t i = 0; i < used; i++)
         if (!good_row(area, n, i))

@@ -9,6 +9,7 @@
 
 enum {
     SECOND_ROLES = 6, /* the largest role count it can enumerate: its 64 holder sets fill one number */
+    SECOND_MOST_ROLES = 64, /* the largest role count of an area */
     SECOND_ROWS = 128,
     SECOND_OPENS = 15,
     SECOND_MINIMAL = 20, /* the most sets of 6 roles of which none is part of another */
