@@ -69,10 +69,10 @@ run() {
     "${runner[@]+"${runner[@]}"}" "$@"
 }
 
-# Runs a program of groups (groups.h) and adds up its last line, 'N passed, M failed'.
+# Runs a program of groups (groups.h), for two minutes at most, and adds up its last line, 'N passed, M failed'.
 count_groups() {
     local status
-    timeout 300 "${runner[@]+"${runner[@]}"}" "$@" 2>&1 | tee "$work/log" | sed -u '$d'
+    timeout 120 "${runner[@]+"${runner[@]}"}" "$@" 2>&1 | tee "$work/log" | sed -u '$d'
     status=${PIPESTATUS[0]}
     if [[ $(tail -n 1 "$work/log") =~ ^([0-9]+)\ passed,\ ([0-9]+)\ failed$ ]]; then
         passed=$((passed + BASH_REMATCH[1]))

@@ -5,6 +5,7 @@
 #include "second.h"
 #include "wickthrush.h"
 
+#include <stdio.h>
 #include <string.h>
 #include <sys/mman.h>
 
@@ -16,7 +17,31 @@ enum {
     OPENS = WICKTHRUSH_MOST_OPEN_SETS
 };
 
-static uint8_t area[BYTES], before[BYTES];
+/* The area stands between guard bytes, as many as it has itself: room for a call that takes a wrong length as right. */
+enum { GUARD = BYTES };
+static _Alignas(16) uint8_t memory[GUARD + BYTES + GUARD];
+static uint8_t *const area = memory + GUARD;
+static uint8_t before[BYTES];
+
+static uint8_t guard_byte(size_t i)
+{
+    return (uint8_t)(i * 7 + 1);
+}
+
+static void put_guards(void)
+{
+    for (size_t i = 0; i < sizeof memory; i++)
+        memory[i] = guard_byte(i);
+}
+
+/* Names the first byte outside the area at `at` that has changed. */
+static void check_guards(const uint8_t *at, const char *name)
+{
+    size_t i = 0, first = (size_t)(at - memory);
+    while (i < sizeof memory && (memory[i] == guard_byte(i) || (i >= first && i < first + BYTES)))
+        i++;
+    check(i == sizeof memory, "%s: guard byte %zu changed", name, i);
+}
 
 /* The set of up to three roles. */
 #define BIT(role) (UINT64_C(1) << (role))
@@ -302,7 +327,7 @@ static void wide_numbers(void)
 
 /* ---- bad areas */
 
-/* Every call but open answers 1 and leaves the area alone, whatever its numbers. */
+/* Every call but open answers 1 and leaves the area and the bytes around it alone, whatever its numbers. */
 static void refused(const char *name, size_t len)
 {
     memcpy(before, area, BYTES);
@@ -320,6 +345,7 @@ static void refused(const char *name, size_t len)
     for (size_t i = 0; i < sizeof answers / sizeof answers[0]; i++)
         check(answers[i] == 1, "%s: call %zu answers %lu", name, i, (unsigned long)answers[i]);
     check(memcmp(area, before, BYTES) == 0, "%s: the area changed", name);
+    check_guards(area, name);
 }
 
 static void accepted(const char *name)
@@ -538,6 +564,7 @@ static void lengths(void)
         check(wickthrush_open(area, wrong[i], 8) == 1, "open with length %zu", wrong[i]);
         check(wickthrush_open(area, wrong[i], 0) == 1, "open with length %zu and no roles", wrong[i]);
         check(memcmp(area, before, BYTES) == 0, "length %zu: the area changed", wrong[i]);
+        check_guards(area, "open with a wrong length");
     }
     check(wickthrush_decide(NULL, 0, 5, 0) == 1, "decide on nothing");
     check(wickthrush_open(NULL, 0, 8) == 1, "open on nothing");
@@ -550,6 +577,7 @@ static void opened(const char *name, uint64_t n)
     second_put(before, 0, n);
     check(wickthrush_open(area, BYTES, n) == 0, "%s: open isn't 0", name);
     check(memcmp(area, before, BYTES) == 0, "%s: open left other bytes", name);
+    check_guards(area, name);
 }
 
 static void any_bytes(void)
@@ -650,16 +678,13 @@ static void short_stream(uint8_t *at)
 
 static void guard_bytes(void)
 {
-    enum { GUARD = 64 };
-    static _Alignas(64) uint8_t memory[GUARD + 16 + BYTES + GUARD];
     group("guard bytes at every alignment");
     for (size_t shift = 0; shift < 16; shift++) {
-        for (size_t i = 0; i < sizeof memory; i++)
-            memory[i] = (uint8_t)(i * 7 + 1);
-        short_stream(memory + GUARD + shift);
-        for (size_t i = 0; i < sizeof memory; i++)
-            if (i < GUARD + shift || i >= GUARD + shift + BYTES)
-                check(memory[i] == (uint8_t)(i * 7 + 1), "alignment %zu: guard byte %zu changed", shift, i);
+        char name[32];
+        snprintf(name, sizeof name, "alignment %zu", shift);
+        put_guards();
+        short_stream(area + shift);
+        check_guards(area + shift, name);
     }
 }
 
@@ -682,6 +707,7 @@ static void guard_pages(void)
 
 int main(void)
 {
+    put_guards();
     header_numbers();
     table_of_readings();
     role_counts();
