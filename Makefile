@@ -20,7 +20,8 @@ link = $(CC)
 run =
 else
 link = x86_64-linux-gnu-gcc -static
-run = $(abspath $(dir $(realpath $(shell command -v rt)))..)/on/$(shell uname -m)/toolchain/bin/qemu-x86_64
+kit = $(or $(RATTLE_HOME),$(abspath $(dir $(realpath $(shell command -v rt)))..))
+run = $(kit)/on/$(shell uname -m)/toolchain/bin/qemu-x86_64
 endif
 
 .PHONY: help lib install uninstall example test
