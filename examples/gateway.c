@@ -2,7 +2,7 @@
  *
  * While the link is up the head office decides, and the gateway feeds its replies and policy updates to the cache.
  * While it is down the gateway decides from the cache, and refuses what the cache cannot decide.
- * Every answer of the cache is treated here; take the three functions under "the gateway" as a pattern. */
+ * Every answer of the cache is treated here; take the functions under "the gateway" as a pattern. */
 #include <wickthrush.h>
 
 #include <assert.h>
@@ -113,6 +113,11 @@ static void hear_update(struct gateway *gateway, const struct update *update)
     case WICKTHRUSH_FORGOTTEN:
         /* Going on with the old rights would be wrong, so the cache dropped them; replies will fill it again. */
         printf("    the gateway heard it, had no room for it, and forgot all of this permission\n");
+        break;
+    case WICKTHRUSH_BAD_AREA:
+    case WICKTHRUSH_NO_PERMISSION:
+        /* No old rights are left in force: the cache starts anew, and permission 0 never had any. */
+        mend(gateway, answer);
         break;
     default:
         /* An update that was not taken must not leave the old rights in force. */
