@@ -19,9 +19,13 @@ packages() {
         </dev/null >"$work/apt" 2>&1 || { cat "$work/apt" >&2; stop "could not install: $*"; }
 }
 
-# need COMMAND PACKAGE
+# need COMMAND..: each has a package of its own name
 need() {
-    command -v "$1" >/dev/null || packages "$2"
+    local name missing=()
+    for name in "$@"; do
+        command -v "$name" >/dev/null || missing+=("$name")
+    done
+    [ "${#missing[@]}" -eq 0 ] || packages "${missing[@]}"
 }
 
 # A compiler without its C library answers with a bare file name.
