@@ -1,4 +1,4 @@
 -- The laws of bytes as words, and what the loops of this crate cite.
 pub mod Laws
 pub mod Runs
-mod Copies
+mod WordRuns
