@@ -10,7 +10,7 @@ use lib.ListN.{length, getD, replicate}
 use lib.Pow.{pow-mono}
 use Rattle.roles.proofs.Member.{T-and}
 use Rattle.words.specs.Words.{words, bytesOf}
-use Rattle.words.proofs.Laws.{Bytes, length-words, length-bytesOf, bytes-bytesOf, words-bytesOf, bytesOf-words}
+use Rattle.words.proofs.Laws.{Bytes, length-words, length-bytesOf, words-bytesOf, bytesOf-words}
 use Rattle.meaning.specs.Lists.{Mem}
 use Rattle.meaning.specs.Rows.{mostOpens}
 use Rattle.meaning.proofs.ListLaws.{mem-at, mem-take}
@@ -93,10 +93,6 @@ module _ (s : State) (g : GoodState s) where
   pub area-state : stateOf (areaOf s) ≡ s
   unfolding stateOf
   area-state = ap heldBy words-area ∙ held-is s g
-
-pub area-bytes : (s : State) → Bytes (areaOf s)
-unfolding areaOf
-area-bytes s = bytes-bytesOf (wordsOf s)
 
 -- ---- good bytes
 

@@ -5,13 +5,11 @@ use mathlib.Core.List.{List, [], _∷_, _++_, append-nil}
 use mathlib.Core.Logic.{_↔_, _≢_, _⊎_, inl, inr, ⊎-elim}
 use Prim.Native.Nat.{ℕ, zero, suc, _+_, _≤_, _<_}
 use native.Mathlib.Nat.{le-of-suc-le-suc}
-use native.Mathlib.Numerals.{add-one}
 use native.Mathlib.Decide.{ℕ-discrete, decLt}
 use native.Mathlib.Omega.{arith}
 use borrow.Author.Tests.{eq-eqb, ne-eqb, lt-ltb, le-ltb}
 use lib.Dec.{T, eqb, eqb→eq}
-use lib.ListN.{length, getD, drop, set, length-append, length-take, length-drop, length-set, drop-of-length-le}
-use lib.Seq.{drop-cons}
+use lib.ListN.{length, getD, set, length-append, length-take, length-drop, length-set}
 use Rattle.roles.proofs.Member.{T-and, T-false}
 use Rattle.meaning.specs.Rows.{Row, blank, Good, mostOpens}
 use Rattle.meaning.proofs.Kept.{blank-good}
@@ -206,22 +204,6 @@ place-most p (e ∷ es) = elim (decLt (e .permission) p) [
   | yes h ↦ rw (place-behind p e es h) (let k = place-most p es in omega arith)
   | no h ↦ let k = place-here p e es (omega arith) in omega arith
 ]
-
--- a walk over the rows up to the place: it stops, goes on, or comes to the end
-module _ (p : ℕ) (es : List Entry) (i : ℕ) (walked : i + place p (drop i es) ≡ place p es) where
-  pub walk-stop : i < length es → p ≤ getD es i none .permission → i ≡ place p es
-  walk-stop u h =
-      let z : place p (drop i es) ≡ 0 = ap (place p) (drop-cons es i none u) ∙ place-here p (getD es i none) (drop (suc i) es) h in
-      omega arith
-
-  pub walk-on : i < length es → getD es i none .permission < p → i + 1 + place p (drop (i + 1) es) ≡ place p es
-  walk-on u h =
-      let z : place p (drop i es) ≡ suc (place p (drop (suc i) es)) = ap (place p) (drop-cons es i none u) ∙ place-behind p (getD es i none) (drop (suc i) es) h in
-      rw add-one (omega arith)
-
-  pub walk-end : length es ≤ i → i ≡ place p es
-  unfolding place
-  walk-end h = let z : place p (drop i es) ≡ 0 = ap (place p) (drop-of-length-le es {i = i} h) in omega arith
 
 -- ---- found by the place
 

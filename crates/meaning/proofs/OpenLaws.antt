@@ -13,7 +13,7 @@ use Rattle.roles.proofs.Member.{T?, T-and}
 use Rattle.roles.proofs.Laws.{partOf-refl, partOf-trans, partOf-antisym, partOf-le, shares-partOf, shares-without}
 use Rattle.meaning.specs.Lists.{Mem, Ascending, any, keep, put}
 use Rattle.meaning.specs.Rows.{hasPart, properPart, hasProperPart, losing, apart, reduceBy, reduce}
-use Rattle.meaning.proofs.ListLaws.{any-law, none-law, keep-law, keep-ascending, length-keep, put-law, put-ascending, length-put, mem-snoc, ascending-snoc, ascending-ext}
+use Rattle.meaning.proofs.ListLaws.{any-law, none-law, keep-law, keep-ascending, length-keep, put-law, put-ascending, mem-snoc, ascending-snoc, ascending-ext}
 
 -- ---- parts
 
@@ -114,15 +114,6 @@ module _ (all : List ℕ) where
   reduceBy-ascending [] = tt
   reduceBy-ascending (o ∷ l) = ascending-reduceBy-cond (hasProperPart o all) o (reduceBy all l) (reduceBy-ascending l)
 
-  length-reduceBy-cond : (b : Bool) (o n : ℕ) (k : List ℕ) → length k ≤ n → length (cond b k (put o k)) ≤ suc n
-  length-reduceBy-cond true o n k h = omega arith
-  length-reduceBy-cond false o n k h = omega (arith, length-put o k)
-
-  pub length-reduceBy : (l : List ℕ) → length (reduceBy all l) ≤ length l
-  unfolding reduceBy
-  length-reduceBy [] = omega arith
-  length-reduceBy (o ∷ l) = length-reduceBy-cond (hasProperPart o all) o (length l) (reduceBy all l) (length-reduceBy l)
-
 -- the reduced list has exactly the sets that have no other as a proper part
 pub reduce-law : (l : List ℕ) (x : ℕ) → Mem x (reduce l) ↔ (Mem x l × T (not (hasProperPart x l)))
 unfolding reduce
@@ -139,10 +130,6 @@ reduce-least l x = Iff·trans (reduce-law l x) (
 pub reduce-ascending : (l : List ℕ) → Ascending (reduce l)
 unfolding reduce
 reduce-ascending l = reduceBy-ascending l l
-
-pub length-reduce : (l : List ℕ) → length (reduce l) ≤ length l
-unfolding reduce
-length-reduce l = length-reduceBy l l
 
 -- every set of the list has a part in the reduced list: a proper part is smaller as a number, so going to one ends
 pub reduce-part : (l : List ℕ) (x : ℕ) → Mem x l → (y : ℕ) × Mem y (reduce l) × T (partOf y x)

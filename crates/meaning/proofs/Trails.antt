@@ -5,7 +5,7 @@ use mathlib.Core.Logic.{_↔_, Iff·trans}
 use Prim.Native.Nat.{ℕ}
 use lib.Dec.{T}
 use Rattle.roles.proofs.Laws.{shares-empty}
-use Rattle.meaning.specs.Events.{agrees, after, Effect, Becomes, Reached, HolderSet, Possible, Reply}
+use Rattle.meaning.specs.Events.{agrees, after, Becomes, Reached, HolderSet, Possible, Reply}
 use Rattle.meaning.specs.Rows.{Row, blank, Leaves, Good, step, rowAfter, Recorded}
 use Rattle.meaning.proofs.Steps.{step-leaves}
 use Rattle.meaning.proofs.Kept.{blank-good, step-good}
@@ -42,23 +42,7 @@ row-leaves n es r h = Iff·trans (after-leaves n blank es (blank-good n) r h) (
   λ p. (p .0, blank-leaves n (p .0) (p .1), p .2),
 )
 
--- ---- trails taken apart
-
-becomes-then : (es : List Happening) (e : Happening) (h₀ h₁ : ℕ) → Becomes es h₀ h₁ → T (agrees e h₁) → Becomes (es ++ e ∷ []) h₀ (after e h₁)
-becomes-then [] e h₀ h₁ p a = (subst⁻¹ (λ (h : ℕ). T (agrees e h)) p a, ap (after e) p)
-becomes-then (x ∷ es) e h₀ h₁ p a = (p .0, becomes-then es e (after x h₀) h₁ (p .1) a)
-
-then-becomes : (es : List Happening) (e : Happening) (h₀ h : ℕ) → Becomes (es ++ e ∷ []) h₀ h
-    → (h₁ : ℕ) × Becomes es h₀ h₁ × T (agrees e h₁) × (after e h₁ ≡ h)
-then-becomes [] e h₀ h p = (h₀, refl, p .0, p .1)
-then-becomes (x ∷ es) e h₀ h p = let r = then-becomes es e (after x h₀) h (p .1) in (r .0, (p .0, r .1), r .2, r .3)
-
--- one event more at the end of a trail has its effect on what was reached
-pub reached-then : (P : ℕ → Type 0) (es : List Happening) (e : Happening) (h : ℕ) → Reached P (es ++ e ∷ []) h ↔ Effect (Reached P es) e h
-reached-then P es e h = (
-  (λ p. let r = then-becomes es e (p .0) h (p .2) in (r .0, (p .0, p .1, r .1), r .2, r .3)),
-  λ r. let q = r .1 in (q .0, q .1, subst (λ (x : ℕ). Becomes (es ++ e ∷ []) (q .0) x) (r .3) (becomes-then es e (q .0) (r .0) (q .2) (r .2))),
-)
+-- ---- replies in another order
 
 -- a reply changes no holder set
 pub reply-after : (e : Happening) → Reply e → (h : ℕ) → after e h ≡ h

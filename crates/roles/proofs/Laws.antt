@@ -144,9 +144,6 @@ joined-assoc s t u = set-ext (joined (joined s t) u) (joined s (joined t u)) (λ
 
 -- ---- without
 
-pub without-empty : (s : ℕ) → without s 0 ≡ s
-without-empty s = set-ext (without s 0) s (λ r. ((λ i. in-without s 0 r .0 i .0), (λ i. in-without s 0 r .1 (i, in-empty r))))
-
 pub without-partOf : (s t : ℕ) → T (partOf (without s t) s)
 without-partOf s t = partOf-law (without s t) s .1 (λ r i. in-without s t r .0 i .0)
 

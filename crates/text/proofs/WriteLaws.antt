@@ -7,8 +7,8 @@ use native.Mathlib.Nat.{add-zero, add-suc, suc-add}
 use native.Mathlib.Numerals.{add-one}
 use native.Mathlib.Omega.{arith}
 use borrow.Author.Tests.{eq-eqb, ne-eqb}
-use lib.ListN.{length, take, drop, set, length-append}
-use lib.Seq.{sets, length-sets, sets-eq}
+use lib.ListN.{length, set, length-append}
+use lib.Seq.{sets, length-sets}
 use Rattle.roles.specs.Sets.{has, mostRoles}
 use Rattle.text.specs.Ascii.{digitZero, comma, minus}
 use Rattle.text.specs.Number.{numberText}
@@ -27,16 +27,9 @@ sets-append (a ∷ t) u d at =
 pub wrote-one : (d : List ℕ) (at c : ℕ) → Wrote d at (c ∷ []) (set d at c) (at + 1)
 wrote-one d at c = record { bytes = refl; next = refl }
 
-pub wrote-two : (d : List ℕ) (at b c : ℕ) → Wrote d at (b ∷ c ∷ []) (set (set d at b) (at + 1) c) (at + 2)
-wrote-two d at b c = record { bytes = rw (add-one at) refl; next = refl }
-
 module _ {d : List ℕ} {at : ℕ} {t e : List ℕ} {p : ℕ} where
   pub wrote-length : Wrote d at t e p → length e ≡ length d
   wrote-length w = ap length (w .bytes) ∙ length-sets d at t
-
-  -- what is before and behind stays
-  pub wrote-paste : Wrote d at t e p → at + length t ≤ length d → e ≡ take at d ++ t ++ drop (at + length t) d
-  wrote-paste w h = w .bytes ∙ sets-eq t d at h
 
   pub wrote-then : {u f : List ℕ} {q : ℕ} → Wrote d at t e p → Wrote e p u f q → Wrote d at (t ++ u) f q
   wrote-then {u} {f} {q} w v = record {
