@@ -1,6 +1,6 @@
 -- Laws of lists of open sets: their members, what reducing leaves of them, and which holder sets meet them. Assumes nothing.
 use mathlib.Core.Path.{_≡_, refl, sym, ap, _∙_, subst, subst⁻¹}
-use mathlib.Core.Bool.{Bool, true, false, not, cond}
+use mathlib.Core.Bool.{not, _&&_}
 use mathlib.Core.List.{List, [], _∷_, _++_}
 use mathlib.Core.Logic.{_↔_, _≢_, _⊎_, inl, inr, ⊎-elim, Iff·trans, Iff·symm}
 use Prim.Native.Nat.{ℕ, zero, suc, _<_, _≤_}
@@ -11,9 +11,9 @@ use lib.ListN.{length, length-map}
 use Rattle.roles.specs.Sets.{without, shares, partOf}
 use Rattle.roles.proofs.Member.{T?, T-and}
 use Rattle.roles.proofs.Laws.{partOf-refl, partOf-trans, partOf-antisym, partOf-le, shares-partOf, shares-without}
-use Rattle.meaning.specs.Lists.{Mem, Ascending, any, keep, put}
-use Rattle.meaning.specs.Rows.{hasPart, properPart, hasProperPart, losing, apart, reduceBy, reduce}
-use Rattle.meaning.proofs.ListLaws.{any-law, none-law, keep-law, keep-ascending, length-keep, put-law, put-ascending, mem-snoc, ascending-snoc, ascending-ext}
+use Rattle.meaning.specs.Lists.{Mem, Ascending, keep, inOrder}
+use Rattle.meaning.specs.Rows.{hasPart, hasProperPart, losing, apart, reduce}
+use Rattle.meaning.proofs.ListLaws.{any-law, none-law, keep-law, keep-ascending, length-keep, inOrder-law, inOrder-ascending, mem-snoc, ascending-snoc, ascending-ext}
 
 -- ---- parts
 
@@ -25,33 +25,28 @@ pub noPart-law : (s : ℕ) (l : List ℕ) → T (not (hasPart s l)) → (o : ℕ
 unfolding hasPart
 noPart-law s l = none-law (λ o. partOf o s) l .0
 
-properPart-law : (o s : ℕ) → T (properPart o s) ↔ (T (partOf o s) × (o ≢ s))
-unfolding properPart
+properPart-law : (o s : ℕ) → T (partOf o s && not (eqb o s)) ↔ (T (partOf o s) × (o ≢ s))
 properPart-law o s = (
   (λ h. let p = T-and (partOf o s) (not (eqb o s)) .0 h in (p .0, λ e. T-not (eqb o s) (p .1) (subst (λ (z : ℕ). T (eqb o z)) e (eqb-refl o)))),
   λ p. T-and (partOf o s) (not (eqb o s)) .1 (p .0, not-T (eqb o s) (λ t. p .1 (eqb→eq o s t))),
 )
 
-pub hasProperPart-law : (s : ℕ) (l : List ℕ) → T (hasProperPart s l) → (o : ℕ) × Mem o l × T (partOf o s) × (o ≢ s)
+hasProperPart-law : (s : ℕ) (l : List ℕ) → T (hasProperPart s l) ↔ ((o : ℕ) × Mem o l × T (partOf o s) × (o ≢ s))
 unfolding hasProperPart
-hasProperPart-law s l h = let r = any-law (λ o. properPart o s) l .0 h in let p = properPart-law (r .0) s .0 (r .2) in (r .0, r .1, p .0, p .1)
+hasProperPart-law s l = let some = any-law (λ o. partOf o s && not (eqb o s)) l in (
+  (λ h. let r = some .0 h in let p = properPart-law (r .0) s .0 (r .2) in (r .0, r .1, p .0, p .1)),
+  λ r. some .1 (r .0, r .1, properPart-law (r .0) s .1 (r .2, r .3)),
+)
 
 -- no other set of the list is part of s
 abbrev pub Least : ℕ → List ℕ → Type 0
 Least s l = (o : ℕ) → Mem o l → T (partOf o s) → o ≡ s
 
 pub noProperPart-law : (s : ℕ) (l : List ℕ) → T (not (hasProperPart s l)) ↔ Least s l
-unfolding hasProperPart
-noProperPart-law s l = (
-  (λ h o m t. elim (ℕ-discrete o s) [
-    | yes e ↦ e
-    | no n ↦ absurd (T-not (properPart o s) (law .0 h o m) (properPart-law o s .1 (t, n)))
-  ]),
-  λ f. law .1 (λ o m. not-T (properPart o s) (λ t. let p = properPart-law o s .0 t in p .1 (f o m (p .0)))),
+noProperPart-law s l = let some = hasProperPart-law s l in (
+  (λ h o m t. elim (ℕ-discrete o s) [ yes e ↦ e | no n ↦ absurd (T-not (hasProperPart s l) h (some .1 (o, m, t, n))) ]),
+  λ f. not-T (hasProperPart s l) (λ h. let r = some .0 h in r .3 (f (r .0) (r .1) (r .2))),
 )
-  where
-    law : T (not (any (λ o. properPart o s) l)) ↔ ((o : ℕ) → Mem o l → T (not (properPart o s)))
-    law = none-law (λ o. properPart o s) l
 
 -- ---- losing, apart
 
@@ -87,37 +82,14 @@ length-apart u l = length-keep (λ o. not (shares o u)) l
 
 -- ---- reduce
 
-module _ (all : List ℕ) where
-  mem-reduceBy-cond : (b : Bool) (x o : ℕ) (k : List ℕ) → Mem x (cond b k (put o k)) ↔ (((x ≡ o) × T (not b)) ⊎ Mem x k)
-  mem-reduceBy-cond true x o k = ((λ m. inr m), ⊎-elim (λ e. absurd (e .1)) (λ m. m))
-  mem-reduceBy-cond false x o k = (
-    (λ m. ⊎-elim (λ e. inl (e, tt)) (λ m′. inr m′) (put-law o k x .0 m)),
-    λ m. put-law o k x .1 (⊎-elim (λ e. inl (e .0)) (λ m′. inr m′) m),
-  )
-
-  reduceBy-law : (l : List ℕ) (x : ℕ) → Mem x (reduceBy all l) ↔ (Mem x l × T (not (hasProperPart x all)))
-  unfolding reduceBy
-  reduceBy-law [] x = ((λ m. absurd m), (λ m. m .0))
-  reduceBy-law (o ∷ l) x =
-      let law = mem-reduceBy-cond (hasProperPart o all) x o (reduceBy all l) in
-      let none : ℕ → Type 0 = λ (z : ℕ). T (not (hasProperPart z all)) in (
-        (λ m. ⊎-elim (λ e. (inl (e .0), subst⁻¹ none (e .0) (e .1))) (λ k. let r = reduceBy-law l x .0 k in (inr (r .0), r .1)) (law .0 m)),
-        λ r. law .1 (⊎-elim (λ e. inl (e, subst none e (r .1))) (λ k. inr (reduceBy-law l x .1 (k, r .1))) (r .0)),
-      )
-
-  ascending-reduceBy-cond : (b : Bool) (o : ℕ) (k : List ℕ) → Ascending k → Ascending (cond b k (put o k))
-  ascending-reduceBy-cond true o k r = r
-  ascending-reduceBy-cond false o k r = put-ascending o k r
-
-  reduceBy-ascending : (l : List ℕ) → Ascending (reduceBy all l)
-  unfolding reduceBy
-  reduceBy-ascending [] = tt
-  reduceBy-ascending (o ∷ l) = ascending-reduceBy-cond (hasProperPart o all) o (reduceBy all l) (reduceBy-ascending l)
+pub reduce-none : reduce [] ≡ []
+unfolding reduce keep inOrder
+reduce-none = refl
 
 -- the reduced list has exactly the sets that have no other as a proper part
 pub reduce-law : (l : List ℕ) (x : ℕ) → Mem x (reduce l) ↔ (Mem x l × T (not (hasProperPart x l)))
 unfolding reduce
-reduce-law l = reduceBy-law l l
+reduce-law l x = Iff·trans (inOrder-law _ x) (keep-law _ l x)
 
 -- that is, of which no other is a part
 pub reduce-least : (l : List ℕ) (x : ℕ) → Mem x (reduce l) ↔ (Mem x l × Least x l)
@@ -129,7 +101,7 @@ reduce-least l x = Iff·trans (reduce-law l x) (
 -- each once, ascending
 pub reduce-ascending : (l : List ℕ) → Ascending (reduce l)
 unfolding reduce
-reduce-ascending l = reduceBy-ascending l l
+reduce-ascending l = inOrder-ascending _
 
 -- every set of the list has a part in the reduced list: a proper part is smaller as a number, so going to one ends
 pub reduce-part : (l : List ℕ) (x : ℕ) → Mem x l → (y : ℕ) × Mem y (reduce l) × T (partOf y x)
@@ -139,7 +111,7 @@ reduce-part l x m = from (suc x) x (omega arith) m
     from zero x h m = absurd (let z : ⊥ = omega arith in z)
     from (suc k) x h m =
         ⊎-elim
-        (λ t. let p = hasProperPart-law x l t in
+        (λ t. let p = hasProperPart-law x l .0 t in
         let le = partOf-le (p .0) x (p .2) in
         let ne = p .3 in
         let r = from k (p .0) (omega arith) (p .1) in

@@ -4,11 +4,10 @@
 --     Good n w             the layout rules for the sets of a row; how many there may be, and that a row says something, comes with the area
 --     mostOpens, fits      a row has room for 15 open sets
 --     hasPart s l          some set of the list is part of s
---     properPart o s       o is part of s and not s itself
---     hasProperPart s l    some set of the list is a proper part of s
+--     hasProperPart s l    some set of the list is part of s, and not s itself
 --     losing s l           the sets of the list, each without s
 --     apart u l            the sets of the list that share no role with u
---     reduceBy, reduce l   the sets of the list that have no other of it as a proper part, each once, ascending
+--     reduce l             the sets of the list that have no other of it as a proper part, each once, ascending
 --     denying, allowing, clearing, giving, withdrawing    the steps, over plain sets
 --     contradicts e w      no holder set that the row leaves possible agrees with the event
 --     step e w             the row after the event
@@ -27,7 +26,7 @@ use lib.Dec.{T, eqb, leb}
 use lib.ListN.{length}
 use Rattle.roles.specs.Sets.{single, joined, without, shares, partOf}
 use Rattle.meaning.specs.Events.{HolderSet, known, agrees, Reply}
-use Rattle.meaning.specs.Lists.{Mem, Ascending, any, keep, put}
+use Rattle.meaning.specs.Lists.{Mem, Ascending, any, keep, inOrder}
 use Rattle.meaning.specs.declared.Happening.{Happening}
 use Rattle.meaning.specs.declared.Happening.the-variants.{Allow, Deny, Given, Withdrawn}
 
@@ -63,11 +62,8 @@ fits w = leb (length (w .opens)) mostOpens
 unfoldable pub hasPart : ℕ → List ℕ → Bool
 hasPart s l = any (λ o. partOf o s) l
 
-unfoldable pub properPart : ℕ → ℕ → Bool
-properPart o s = partOf o s && not (eqb o s)
-
 unfoldable pub hasProperPart : ℕ → List ℕ → Bool
-hasProperPart s l = any (λ o. properPart o s) l
+hasProperPart s l = any (λ o. partOf o s && not (eqb o s)) l
 
 unfoldable pub losing : ℕ → List ℕ → List ℕ
 losing s l = map (λ o. without o s) l
@@ -75,13 +71,8 @@ losing s l = map (λ o. without o s) l
 unfoldable pub apart : ℕ → List ℕ → List ℕ
 apart u l = keep (λ o. not (shares o u)) l
 
--- those of l that have none of `all` as a proper part
-unfoldable pub reduceBy : List ℕ → List ℕ → List ℕ
-reduceBy all [] = []
-reduceBy all (o ∷ l) = cond (hasProperPart o all) (reduceBy all l) (put o (reduceBy all l))
-
 unfoldable pub reduce : List ℕ → List ℕ
-reduce l = reduceBy l l
+reduce l = inOrder (keep (λ o. not (hasProperPart o l)) l)
 
 -- ---- the steps
 
