@@ -1,5 +1,5 @@
 -- The readings of document 01 marked P, as far as they speak of one row (128 rows come with the area), and the worked case of document 001, section 3.4, for n 8.
---     bitsOf, roles rs     the set of the roles of a list
+--     roles l              the set of the roles of a list, as the code has it
 --     Decided es s a       the trail is recorded, and then the session s is answered a
 --     Answered es e a      the trail is recorded, and then the event is answered a
 --     Opens es l           the trail is recorded, and then the open sets are those of l
@@ -7,27 +7,23 @@
 use mathlib.Core.Path.{_≡_}
 use mathlib.Core.List.{List, [], _∷_, map}
 use Prim.Native.Nat.{ℕ}
-use Rattle.roles.specs.Sets.{single, joined}
+use Rattle.roles.specs.Sets.{setOf}
 use Rattle.roles.specs.declared.RoleSet.{RoleSet}
 use Rattle.meaning.specs.Rows.{blank, settle, rowAfter, Recorded, decide}
 use Rattle.meaning.specs.declared.Happening.{Happening}
 use Rattle.meaning.specs.declared.Happening.the-variants.{Allow, Deny, Given, Withdrawn}
 
-unfoldable pub bitsOf : List ℕ → ℕ
-bitsOf [] = 0
-bitsOf (r ∷ rs) = joined (single r) (bitsOf rs)
-
 abbrev pub roles : List ℕ → RoleSet
-roles rs = record { bits = bitsOf rs }
+roles l = record { bits = setOf l }
 
 abbrev pub Decided : List Happening → List ℕ → ℕ → Type 0
-Decided es s a = Recorded 8 blank es × (decide (rowAfter blank es) (bitsOf s) ≡ a)
+Decided es s a = Recorded 8 blank es × (decide (rowAfter blank es) (setOf s) ≡ a)
 
 abbrev pub Answered : List Happening → Happening → ℕ → Type 0
 Answered es e a = Recorded 8 blank es × (settle e (rowAfter blank es) .answer ≡ a)
 
 abbrev pub Opens : List Happening → List (List ℕ) → Type 0
-Opens es l = Recorded 8 blank es × (rowAfter blank es .opens ≡ map bitsOf l)
+Opens es l = Recorded 8 blank es × (rowAfter blank es .opens ≡ map setOf l)
 
 -- document 001, section 3.4, with r1 as role 1
 abbrev pub worked : List Happening
@@ -48,7 +44,7 @@ pub record Readings : Type 0 where
   pub given-other-denied : Decided (Deny (roles (1 ∷ 2 ∷ [])) ∷ Given 1 ∷ []) (2 ∷ []) 10
   pub allow-then-deny : Answered (Allow (roles (2 ∷ 3 ∷ [])) ∷ []) (Deny (roles (2 ∷ 3 ∷ []))) 6
   pub common-role-undecided : Decided (Allow (roles (1 ∷ 2 ∷ [])) ∷ Allow (roles (2 ∷ 3 ∷ [])) ∷ []) (2 ∷ []) 12
-  pub worked-row : rowAfter blank worked ≡ record { denied = bitsOf (1 ∷ 2 ∷ 4 ∷ 7 ∷ []); opens = map bitsOf ((3 ∷ []) ∷ (5 ∷ 6 ∷ []) ∷ []) }
+  pub worked-row : rowAfter blank worked ≡ record { denied = setOf (1 ∷ 2 ∷ 4 ∷ 7 ∷ []); opens = map setOf ((3 ∷ []) ∷ (5 ∷ 6 ∷ []) ∷ []) }
   pub worked-allow : Decided worked (3 ∷ 4 ∷ []) 11
   pub worked-deny : Decided worked (1 ∷ 4 ∷ 7 ∷ []) 10
   pub worked-undecided : Decided worked (1 ∷ 5 ∷ []) 12

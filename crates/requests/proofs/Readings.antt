@@ -1,8 +1,8 @@
 -- Lines on both sides of what reads, each computed from the definitions. Assumes nothing.
 use mathlib.Core.Path.{_≡_, refl}
 use mathlib.Core.List.{[], _∷_, _++_}
-use Rattle.roles.specs.Sets.{joined, single}
-use Rattle.meaning.specs.Readings.{bitsOf, roles}
+use Rattle.roles.specs.Sets.{single, joined, setOf}
+use Rattle.meaning.specs.Readings.{roles}
 use Rattle.meaning.specs.declared.Happening.the-variants.{Deny, Given}
 use Rattle.text.specs.Ascii.{comma, minus, space}
 use Rattle.text.specs.Number.{digits, numberText, isDigit, digitNext, nextIs, readMore, readNumber}
@@ -31,7 +31,7 @@ pub record Readings : Type 0 where
   pub no-line : requestOf [] ≡ Unreadable
 
 pub readings : Readings
-unfolding bitsOf joined single digits numberText isDigit digitNext nextIs readMore readNumber readRole readRoles readSet fieldOf lastNumber lastSet permissionSet permissionRole byLetter requestOf
+unfolding single joined setOf digits numberText isDigit digitNext nextIs readMore readNumber readRole readRoles readSet fieldOf lastNumber lastSet permissionSet permissionRole byLetter requestOf
 readings = record {
   open-65 = refl;
   open-256 = refl;

@@ -1,6 +1,7 @@
 -- What each set and each operation says of one role, and what that says of whole sets. Assumes nothing.
 use mathlib.Core.Path.{_≡_, refl, _∙_, subst, subst⁻¹}
 use mathlib.Core.Bool.{Bool, true, false, not, _&&_, _||_}
+use mathlib.Core.List.{List, _∷_}
 use mathlib.Core.Logic.{_↔_, _⊎_, inl, inr, ⊎-elim, _≢_, by-cases}
 use Prim.Native.Nat.{ℕ, zero, suc, _%_, _^_, _<_}
 use native.Mathlib.Nat.{mod-lt, div-eq-of-lt, lt-of-lt-of-le}
@@ -10,7 +11,7 @@ use lib.Arith.{bin-ind}
 use lib.Bits.{and-mask}
 use lib.Pow.{pow-pos, pow-mono}
 use lib.Dec.{T, T-not, not-T, eqb, eqb→eq, eqb-refl, ltb→lt, lt→ltb, eqb·suc-zero}
-use Rattle.roles.specs.Sets.{has, In, single, allBelow, below64, joined, common, without, shares, partOf}
+use Rattle.roles.specs.Sets.{has, In, single, allBelow, below64, joined, common, without, setOf, shares, partOf}
 use Rattle.roles.proofs.Digits.{two-pos, has-joined, has-common, has-without, has-zero, has-suc, has-empty, has-single, has-allBelow, has-ext}
 
 -- ---- tests and facts
@@ -69,6 +70,13 @@ in-without s t r = (
   where
     both : T (has s r && not (has t r)) ↔ (T (has s r) × T (not (has t r)))
     both = T-and (has s r) (not (has t r))
+
+pub in-setOf : (r : ℕ) (l : List ℕ) (q : ℕ) → In (setOf (r ∷ l)) q ↔ ((r ≡ q) ⊎ In (setOf l) q)
+unfolding setOf
+in-setOf r l q = let j = in-joined (single r) (setOf l) q in let o = in-single r q in (
+  (λ i. ⊎-elim (λ a. inl (o .0 a)) (λ b. inr b) (j .0 i)),
+  ⊎-elim (λ e. j .1 (inl (o .1 e))) (λ b. j .1 (inr b)),
+)
 
 -- ---- two sets
 

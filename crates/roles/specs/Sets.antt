@@ -10,7 +10,9 @@
 --     joined s t         the roles of either
 --     common s t         the roles of both
 --     without s t        the roles of s that are not in t
+--     setOf l            the set of the roles of a list
 use mathlib.Core.Bool.{Bool, not}
+use mathlib.Core.List.{List, [], _∷_}
 use Prim.Native.Nat.{ℕ, _-_, _/_, _%_, _^_}
 use lib.Bits.{bitAnd, bitOr, bitXor}
 use lib.Dec.{T, eqb}
@@ -44,6 +46,10 @@ common s t = bitAnd s t
 
 unfoldable pub without : ℕ → ℕ → ℕ
 without s t = bitXor s (common s t)
+
+unfoldable pub setOf : List ℕ → ℕ
+setOf [] = 0
+setOf (r ∷ l) = joined (single r) (setOf l)
 
 unfoldable pub shares : ℕ → ℕ → Bool
 shares s t = not (eqb (common s t) 0)

@@ -8,9 +8,9 @@ use native.Mathlib.Decide.{decLt}
 use native.Mathlib.Omega.{arith}
 use lib.Bits.{or-zero-r}
 use lib.Dec.{T}
-use Rattle.roles.specs.Sets.{has, In, single, joined, lastRole, mostRoles}
-use Rattle.roles.proofs.Member.{T-ext, in-empty, in-single, in-joined, set-ext, below-law}
-use Rattle.roles.proofs.Laws.{in⇒nonempty}
+use Rattle.roles.specs.Sets.{mostRoles, lastRole, has, In, single, joined, setOf}
+use Rattle.roles.proofs.Member.{T-ext, in-empty, in-setOf, set-ext, below-law}
+use Rattle.roles.proofs.Laws.{in⇒nonempty, joined-assoc}
 use Rattle.text.specs.Set.{rolesFrom, rolesOf}
 
 -- strictly ascending from `low` to the last role
@@ -30,18 +30,6 @@ roles-from (suc k) r s h = go (has s r) (roles-from k (suc r) s (omega arith))
     go : (b : Bool) → From (suc r) (rolesFrom k (suc r) s) → From r (cond b (r ∷ rolesFrom k (suc r) s) (rolesFrom k (suc r) s))
     go true f = (omega arith, omega arith, f)
     go false f = from-less (suc r) r (rolesFrom k (suc r) s) (omega arith) f
-
--- the set of the roles of l
-unfoldable pub setOf : List ℕ → ℕ
-setOf [] = 0
-setOf (r ∷ l) = joined (single r) (setOf l)
-
-in-setOf : (r : ℕ) (l : List ℕ) (q : ℕ) → In (setOf (r ∷ l)) q ↔ ((r ≡ q) ⊎ In (setOf l) q)
-unfolding setOf
-in-setOf r l q = let j = in-joined (single r) (setOf l) q in let o = in-single r q in (
-  (λ i. ⊎-elim (λ a. inl (o .0 a)) (λ b. inr b) (j .0 i)),
-  ⊎-elim (λ e. j .1 (inl (o .1 e))) (λ b. j .1 (inr b)),
-)
 
 setOf-from : (low : ℕ) (l : List ℕ) → From low l → (q : ℕ) → In (setOf l) q → (low ≤ q) × (q < mostRoles)
 unfolding setOf
@@ -112,15 +100,8 @@ rolesOf-setOf l f = rolesFrom-is mostRoles 0 (setOf l) l (omega arith) f (λ q h
 
 -- a role beside s, then those of l: all of them beside s
 pub joined-setOf : (s r : ℕ) (l : List ℕ) → joined (joined s (single r)) (setOf l) ≡ joined s (setOf (r ∷ l))
-joined-setOf s r l = set-ext (joined (joined s (single r)) (setOf l)) (joined s (setOf (r ∷ l))) (λ q.
-    let a = in-joined (joined s (single r)) (setOf l) q in
-    let b = in-joined s (single r) q in
-    let c = in-joined s (setOf (r ∷ l)) q in
-    let d = in-setOf r l q in
-    let o = in-single r q in (
-      (λ i. c .1 (⊎-elim (λ j. ⊎-elim (λ x. inl x) (λ x. inr (d .1 (inl (o .0 x)))) (b .0 j)) (λ x. inr (d .1 (inr x))) (a .0 i))),
-      λ i. a .1 (⊎-elim (λ x. inl (b .1 (inl x))) (λ j. ⊎-elim (λ x. inl (b .1 (inr (o .1 x)))) (λ x. inr x) (d .0 j)) (c .0 i)),
-    ))
+unfolding setOf
+joined-setOf s r l = joined-assoc s (single r) (setOf l)
 
 pub joined-alone : (s r : ℕ) → joined s (single r) ≡ joined s (setOf (r ∷ []))
 unfolding joined setOf

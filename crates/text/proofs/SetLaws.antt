@@ -8,12 +8,12 @@ use native.Mathlib.Omega.{arith}
 use borrow.Author.Tests.{lt-ltb, le-ltb, ne-eqb, ltb-false, eqb-true, eqb-false}
 use lib.Dec.{lit<, ltb, eqb}
 use lib.ListN.{drop}
-use Rattle.roles.specs.Sets.{single, joined, lastRole, mostRoles}
+use Rattle.roles.specs.Sets.{mostRoles, lastRole, single, joined, setOf}
 use Rattle.text.specs.Ascii.{comma, minus}
 use Rattle.text.specs.Number.{numberText, Got, found, bad, isDigit, digitNext, nextIs, readNumber}
 use Rattle.text.specs.Set.{rolesOf, roleText, rolesText, setText, readRole, readRoles, readSet, Ends}
 use Rattle.text.proofs.NumberLaws.{number-back, number-only, next-is, bad≢found}
-use Rattle.text.proofs.RoleLists.{From, roles-from, setOf, setOf-rolesOf, rolesOf-setOf, setOf-below, setOf-nonempty, joined-setOf, joined-alone}
+use Rattle.text.proofs.RoleLists.{From, roles-from, setOf-rolesOf, rolesOf-setOf, setOf-below, setOf-nonempty, joined-setOf, joined-alone}
 
 -- ---- reading, role by role
 
