@@ -7,7 +7,7 @@
 --     Gives t r          `r` is the answer and the row of t
 use mathlib.Core.Path.{_≡_}
 use mathlib.Core.List.{List, _++_}
-use Prim.Native.Nat.{ℕ, _-_, _≤_}
+use Prim.Native.Nat.{ℕ, _+_, _-_, _≤_}
 use lib.ListN.{length, take, replicate}
 use Rattle.meaning.specs.Rows as meaning
 use Rattle.rows.specs.declared.OpenSets.{OpenSets}
@@ -22,7 +22,7 @@ abbrev pub held : OpenSets → List ℕ
 held l = take (l .count) (l .sets)
 
 abbrev pub places : ℕ
-places = 16
+places = 1 + meaning.mostOpens
 
 abbrev pub padded : List ℕ → List ℕ
 padded k = k ++ replicate (places - length k) 0

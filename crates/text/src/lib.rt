@@ -100,7 +100,7 @@ pub fn read_number(line: &[u8], at: usize, limit: u64) -> NumberField
 fn read_roles(line: &[u8], at: usize) -> SetField
     ensures { λ r. ⌜ r ≡ setField (now (line .entry)) (readRoles mostRoles 0 0 (drop at (now (line .entry)))) ⌝ }
 {
-    let mut set = RoleSet { bits: 0 };
+    let mut set = RoleSet::EMPTY;
     let mut low: u64 = 0;
     let mut i = at;
     loop {
