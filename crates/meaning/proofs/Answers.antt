@@ -15,11 +15,11 @@ use Rattle.meaning.specs.declared.Happening.{Happening}
 use Rattle.meaning.specs.declared.Happening.the-variants.{Allow, Deny, Given, Withdrawn}
 
 -- a row that does not fit has more than 15 open sets
-pub fits-law : (w : Row) → T (fits w) ↔ (length (w .opens) ≤ 15)
+pub fits-law : (w : Row) → T (fits w) ↔ (length (w .opens) ≤ mostOpens)
 unfolding fits
 fits-law w = (leb→le (length (w .opens)) mostOpens, le→leb (length (w .opens)) mostOpens)
 
-pub fits-not-law : (w : Row) → T (not (fits w)) ↔ (15 < length (w .opens))
+pub fits-not-law : (w : Row) → T (not (fits w)) ↔ (mostOpens < length (w .opens))
 unfolding fits
 fits-not-law w = (nleb→lt (length (w .opens)) mostOpens, lt→nleb (length (w .opens)) mostOpens)
 
@@ -55,7 +55,7 @@ case e w = go (contradicts e w) (fits (step e w)) refl refl
 
 module _ (n : ℕ) (e : Happening) (w : Row) (g : Good n w) (k : T (known n e)) where
   -- too many and few enough exclude each other
-  apart : {A : Type 0} → T (fits (step e w)) → 15 < length (step e w .opens) → A
+  apart : {A : Type 0} → T (fits (step e w)) → mostOpens < length (step e w .opens) → A
   apart f m = let l = fits-law (step e w) .0 f in absurd (let z : ⊥ = omega arith in z)
 
   settles : (t : Settled) → Case e w t → Settles n e w t

@@ -8,7 +8,7 @@ use native.Mathlib.Omega.{arith}
 use lib.Bits.{and-le-r}
 use lib.Dec.{T, leb, leb→le, le→leb}
 use lib.Pow.{pow-lt, pow-mono, ones-lt}
-use Rattle.roles.specs.Sets.{has, In, single, allBelow, below64, joined, common, without, shares, partOf}
+use Rattle.roles.specs.Sets.{mostRoles, has, In, single, allBelow, below64, joined, common, without, shares, partOf}
 use Rattle.roles.proofs.Member.{T-ext, in-empty, in-single, in-allBelow, in-joined, in-common, in-without, set-ext, shares-law, partOf-law, below-law, in-below64}
 
 -- ---- empty
@@ -37,27 +37,27 @@ unfolding allBelow
 allBelow-below n = ones-lt n
 
 -- a set below 64 is held whole
-pub below64-whole : (s : ℕ) → s < 2 ^ 64 → below64 s ≡ s
+pub below64-whole : (s : ℕ) → s < 2 ^ mostRoles → below64 s ≡ s
 unfolding below64
 below64-whole s h = mod-eq-of-lt h
 
-pub below64-single : (r : ℕ) → r < 64 → below64 (single r) ≡ single r
-below64-single r h = below64-whole (single r) (single-below 64 r h)
+pub below64-single : (r : ℕ) → r < mostRoles → below64 (single r) ≡ single r
+below64-single r h = below64-whole (single r) (single-below mostRoles r h)
 
-pub below64-allBelow : (n : ℕ) → n ≤ 64 → below64 (allBelow n) ≡ allBelow n
+pub below64-allBelow : (n : ℕ) → n ≤ mostRoles → below64 (allBelow n) ≡ allBelow n
 below64-allBelow n h = below64-whole (allBelow n) (lt-of-lt-of-le (allBelow-below n) (pow-mono h))
 
 -- past 64 there is no role, and all below n is all there are
-pub below64-no-role : (r : ℕ) → 64 ≤ r → below64 (single r) ≡ 0
+pub below64-no-role : (r : ℕ) → mostRoles ≤ r → below64 (single r) ≡ 0
 below64-no-role r h = set-ext (below64 (single r)) 0 (λ q. (
   (λ i. let p = in-below64 (single r) q .0 i in let e = in-single r q .0 (p .0) in absurd (let z : ⊥ = omega arith in z)),
   λ i. absurd (in-empty q i),
 ))
 
-pub below64-all : (n : ℕ) → 64 ≤ n → below64 (allBelow n) ≡ allBelow 64
-below64-all n h = set-ext (below64 (allBelow n)) (allBelow 64) (λ r. (
-  (λ i. in-allBelow 64 r .1 (in-below64 (allBelow n) r .0 i .1)),
-  λ i. let b = in-allBelow 64 r .0 i in in-below64 (allBelow n) r .1 (in-allBelow n r .1 (omega arith), b),
+pub below64-all : (n : ℕ) → mostRoles ≤ n → below64 (allBelow n) ≡ allBelow mostRoles
+below64-all n h = set-ext (below64 (allBelow n)) (allBelow mostRoles) (λ r. (
+  (λ i. in-allBelow mostRoles r .1 (in-below64 (allBelow n) r .0 i .1)),
+  λ i. let b = in-allBelow mostRoles r .0 i in in-below64 (allBelow n) r .1 (in-allBelow n r .1 (omega arith), b),
 ))
 
 -- ---- part of

@@ -11,7 +11,7 @@ use lib.Arith.{bin-ind}
 use lib.Bits.{and-mask}
 use lib.Pow.{pow-pos, pow-mono}
 use lib.Dec.{T, T-not, not-T, eqb, eqb→eq, eqb-refl, ltb→lt, lt→ltb, eqb·suc-zero}
-use Rattle.roles.specs.Sets.{has, In, single, allBelow, below64, joined, common, without, setOf, shares, partOf}
+use Rattle.roles.specs.Sets.{mostRoles, has, In, single, allBelow, below64, joined, common, without, setOf, shares, partOf}
 use Rattle.roles.proofs.Digits.{two-pos, has-joined, has-common, has-without, has-zero, has-suc, has-empty, has-single, has-allBelow, has-ext}
 
 -- ---- tests and facts
@@ -153,9 +153,9 @@ below-law n s = (
   λ f. subst⁻¹ (λ (x : ℕ). x < 2 ^ n) (kept n s f) (mod-lt s (pow-pos n)),
 )
 
-pub in-below64 : (s r : ℕ) → In (below64 s) r ↔ (In s r × (r < 64))
+pub in-below64 : (s r : ℕ) → In (below64 s) r ↔ (In s r × (r < mostRoles))
 unfolding below64
 in-below64 s r = (
-  (λ i. let p = in-common s (allBelow 64) r .0 (subst⁻¹ (λ (x : ℕ). In x r) (common-allBelow s 64) i) in (p .0, in-allBelow 64 r .0 (p .1))),
-  λ p. subst (λ (x : ℕ). In x r) (common-allBelow s 64) (in-common s (allBelow 64) r .1 (p .0, in-allBelow 64 r .1 (p .1))),
+  (λ i. let p = in-common s (allBelow mostRoles) r .0 (subst⁻¹ (λ (x : ℕ). In x r) (common-allBelow s mostRoles) i) in (p .0, in-allBelow mostRoles r .0 (p .1))),
+  λ p. subst (λ (x : ℕ). In x r) (common-allBelow s mostRoles) (in-common s (allBelow mostRoles) r .1 (p .0, in-allBelow mostRoles r .1 (p .1))),
 )

@@ -37,8 +37,8 @@ setOf-from low [] f q i = absurd (in-empty q i)
 setOf-from low (r ∷ l) f q i =
     ⊎-elim (λ e. (omega arith, omega arith)) (λ j. let p = setOf-from (suc r) l (f .2) q j in (omega arith, p .1)) (in-setOf r l q .0 i)
 
-pub setOf-below : (l : List ℕ) → From 0 l → setOf l < 2 ^ 64
-setOf-below l f = below-law 64 (setOf l) .1 (λ q i. setOf-from 0 l f q i .1)
+pub setOf-below : (l : List ℕ) → From 0 l → setOf l < 2 ^ mostRoles
+setOf-below l f = below-law mostRoles (setOf l) .1 (λ q i. setOf-from 0 l f q i .1)
 
 pub setOf-nonempty : (r : ℕ) (l : List ℕ) → setOf (r ∷ l) ≢ 0
 setOf-nonempty r l = in⇒nonempty (setOf (r ∷ l)) r (in-setOf r l r .1 (inl refl))
@@ -61,11 +61,11 @@ in-rolesFrom (suc k) r s q = go (has s r) refl (in-rolesFrom k (suc r) s q)
     )
 
 -- a set of roles is the set of its list
-pub setOf-rolesOf : (s : ℕ) → s < 2 ^ 64 → setOf (rolesOf s) ≡ s
+pub setOf-rolesOf : (s : ℕ) → s < 2 ^ mostRoles → setOf (rolesOf s) ≡ s
 unfolding rolesOf
 setOf-rolesOf s h = set-ext (setOf (rolesFrom mostRoles 0 s)) s (λ q. (
   (λ i. in-rolesFrom mostRoles 0 s q .0 i .0),
-  λ i. in-rolesFrom mostRoles 0 s q .1 (i, omega arith, (let b = below-law 64 s .0 h q i in omega arith)),
+  λ i. in-rolesFrom mostRoles 0 s q .1 (i, omega arith, (let b = below-law mostRoles s .0 h q i in omega arith)),
 ))
 
 has-yes : (s r : ℕ) → In s r → has s r ≡ true

@@ -79,7 +79,7 @@ number-no-minus t v u e = go (nextIs minus t) refl
     go true q = absurd (bad≢found (sym (minus-no-number lastRole (drop 1 t)) ∙ ap (readNumber lastRole) (sym (next-is minus t q)) ∙ e))
     go false q = refl
 
-pub set-back : (s : ℕ) (t : List ℕ) → s < 2 ^ 64 → Ends t → readSet (setText s ++ t) ≡ found s t
+pub set-back : (s : ℕ) (t : List ℕ) → s < 2 ^ mostRoles → Ends t → readSet (setText s ++ t) ≡ found s t
 unfolding readSet setText nextIs rolesOf joined setOf
 set-back s t h e = go (eqb s 0) refl (rolesOf s) (roles-from mostRoles 0 s (omega arith)) (setOf-rolesOf s h)
   where
@@ -148,11 +148,11 @@ roles-only (suc k) s low t v rest e =
     })
     (p .4)
 
-pub set-only : (t : List ℕ) (v : ℕ) (rest : List ℕ) → readSet t ≡ found v rest → (t ≡ setText v ++ rest) × (v < 2 ^ 64)
+pub set-only : (t : List ℕ) (v : ℕ) (rest : List ℕ) → readSet t ≡ found v rest → (t ≡ setText v ++ rest) × (v < 2 ^ mostRoles)
 unfolding readSet setText joined
 set-only t v rest e = go (nextIs minus t) refl e
   where
-    go : (b : Bool) → nextIs minus t ≡ b → cond b (found 0 (drop 1 t)) (readRoles mostRoles 0 0 t) ≡ found v rest → (t ≡ setText v ++ rest) × (v < 2 ^ 64)
+    go : (b : Bool) → nextIs minus t ≡ b → cond b (found 0 (drop 1 t)) (readRoles mostRoles 0 0 t) ≡ found v rest → (t ≡ setText v ++ rest) × (v < 2 ^ mostRoles)
     go true q d =
         let a : 0 ≡ v = cc in
         let b : drop 1 t ≡ rest = cc in
