@@ -6,6 +6,7 @@ use Prim.Native.Nat.{ℕ, _≤_}
 use lib.ListN.{length}
 use Rattle.text.specs.Ascii.{lf, Lacks}
 use Rattle.requests.specs.Request.{requestText, InRange, requestOf}
+use Rattle.requests.specs.Readings.{Readings}
 use Rattle.requests.specs.declared.Request.{Request}
 use Rattle.requests.specs.declared.Request.the-variants.{Unreadable}
 use Rattle.requests.proofs.RequestLaws as laws
@@ -35,5 +36,5 @@ pub request-nolf : (q : Request) → Lacks lf (requestText q)
 request-nolf = laws.request-nolf
 
 -- lines on both sides of what reads
-pub readings : read.Readings
+pub readings : Readings
 readings = read.readings

@@ -1,3 +1,4 @@
 -- What the contracts and theorems of `requests` cite.
 pub mod Fields
 pub mod Request
+pub mod Readings

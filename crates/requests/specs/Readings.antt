@@ -1,0 +1,29 @@
+-- Lines on both sides of what reads.
+--     Readings    the request that each of them says
+use mathlib.Core.Path.{_≡_}
+use mathlib.Core.List.{[], _∷_, _++_}
+use Rattle.meaning.specs.Readings.{roles}
+use Rattle.meaning.specs.declared.Happening.the-variants.{Deny, Given}
+use Rattle.text.specs.Ascii.{comma, minus, space}
+use Rattle.text.specs.Number.{numberText}
+use Rattle.requests.specs.Request.{letterO, letterD, letterG, letterF, letterS, spaced, told, requestOf}
+use Rattle.requests.specs.declared.Request.the-variants.{Open, Forget, Show, Unreadable}
+
+pub record Readings : Type 0 where
+  pub open-65 : requestOf (letterO ∷ spaced 65) ≡ Open 65
+  pub open-256 : requestOf (letterO ∷ spaced 256) ≡ Unreadable
+  pub leading-zero : requestOf (letterO ∷ (spaced 0 ++ numberText 8)) ≡ Unreadable
+  pub two-spaces : requestOf (letterO ∷ space ∷ spaced 8) ≡ Unreadable
+  pub trailing-space : requestOf (letterO ∷ (spaced 8 ++ (space ∷ []))) ≡ Unreadable
+  pub role-63 : requestOf (letterG ∷ (spaced 5 ++ spaced 63)) ≡ told 5 (Given 63)
+  pub role-64 : requestOf (letterG ∷ (spaced 5 ++ spaced 64)) ≡ Unreadable
+  pub no-roles : requestOf (letterD ∷ (spaced 5 ++ (space ∷ minus ∷ []))) ≡ told 5 (Deny (roles []))
+  pub rising-roles : requestOf (letterD ∷ (spaced 5 ++ spaced 1 ++ (comma ∷ numberText 2))) ≡ told 5 (Deny (roles (1 ∷ 2 ∷ [])))
+  pub equal-roles : requestOf (letterD ∷ (spaced 5 ++ spaced 1 ++ (comma ∷ numberText 1))) ≡ Unreadable
+  pub falling-roles : requestOf (letterD ∷ (spaced 5 ++ spaced 2 ++ (comma ∷ numberText 1))) ≡ Unreadable
+  pub trailing-comma : requestOf (letterD ∷ (spaced 5 ++ spaced 1 ++ (comma ∷ []))) ≡ Unreadable
+  pub largest-permission : requestOf (letterF ∷ spaced 4294967295) ≡ Forget 4294967295
+  pub permission-too-large : requestOf (letterF ∷ spaced 4294967296) ≡ Unreadable
+  pub show : requestOf (letterS ∷ []) ≡ Show
+  pub show-with-space : requestOf (letterS ∷ space ∷ []) ≡ Unreadable
+  pub no-line : requestOf [] ≡ Unreadable
