@@ -12,12 +12,12 @@ use Rattle.roles.specs.Sets.{lastRole, mostRoles}
 use Rattle.meaning.specs.Events.{lastPermission}
 use Rattle.text.specs.Ascii.{space}
 use Rattle.text.specs.Number.{numberText, Got, found, bad, isDigit, digitNext, nextIs, readNumber}
-use Rattle.text.specs.Set.{setText, readSet, readRoles, readRole}
+use Rattle.text.specs.Set.{setText, readSet}
 use Rattle.text.specs.Field.{numberField, setField}
 use Rattle.text.specs.declared.NumberField.the-variants as number
 use Rattle.text.specs.declared.SetField.the-variants as set
-use Rattle.text.proofs.NumberLaws.{next-is, bad≢found, number-back, number-only}
-use Rattle.text.proofs.SetLaws.{set-back, set-only}
+use Rattle.text.proofs.NumberLaws.{next-is, bad≢found, number-nothing, number-back, number-only}
+use Rattle.text.proofs.SetLaws.{set-nothing, set-back, set-only}
 use Rattle.text.proofs.Walks.{next-cons, number-read, set-read}
 use Rattle.requests.specs.Fields.{fieldOf, got, ended, lastNumber, lastSet, permissionSet, permissionRole}
 use Rattle.requests.specs.Request.{spaced, spacedSet}
@@ -57,16 +57,14 @@ field-spaced read t v u n e = go (nextIs space t) refl e
     go false q r = absurd (bad≢found (sym n ∙ r))
 
 spaced-number-only : (limit : ℕ) (t : List ℕ) (v : ℕ) (u : List ℕ) → readNumber limit (fieldOf t) ≡ found v u → (t ≡ spaced v ++ u) × (v ≤ limit)
-unfolding readNumber nextIs digitNext
 spaced-number-only limit t v u e =
     let p = number-only limit (fieldOf t) v u e in
-    (field-spaced (readNumber limit) t v u refl e ∙ ap {B = List ℕ} (λ x. space ∷ x) (p .same), p .small)
+    (field-spaced (readNumber limit) t v u (number-nothing limit) e ∙ ap {B = List ℕ} (λ x. space ∷ x) (p .same), p .small)
 
 spaced-set-only : (t : List ℕ) (v : ℕ) (u : List ℕ) → readSet (fieldOf t) ≡ found v u → (t ≡ (space ∷ setText v) ++ u) × (v < 2 ^ mostRoles)
-unfolding readSet readRoles readRole readNumber nextIs digitNext
 spaced-set-only t v u e =
     let p = set-only (fieldOf t) v u e in
-    (field-spaced readSet t v u refl e ∙ ap {B = List ℕ} (λ x. space ∷ x) (p .0), p .1)
+    (field-spaced readSet t v u set-nothing e ∙ ap {B = List ℕ} (λ x. space ∷ x) (p .0), p .1)
 
 module _ {A : Type 0} (other : A) (P : A → Type 0) (none : P other) where
   got-only : (k : ℕ → List ℕ → A) (g : Got) → ((v : ℕ) (u : List ℕ) → g ≡ found v u → P (k v u)) → P (got other k g)

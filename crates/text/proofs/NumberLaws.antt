@@ -83,6 +83,11 @@ unfolding readNumber digitNext nextIs
 number-none limit [] d = refl
 number-none limit (c ∷ s) d = rw (ne-eqb c digitZero (λ e. false≢true (sym d ∙ digit-yes c (omega arith) (omega arith))), d) refl
 
+-- an empty text does not read
+pub number-nothing : (limit : ℕ) → readNumber limit [] ≡ bad
+unfolding digitNext
+number-nothing limit = number-none limit [] refl
+
 -- a digit more, and one too many
 pub more-on : (limit v c : ℕ) (s : List ℕ) → isDigit c ≡ true → grown v c ≤ limit → readMore limit v (c ∷ s) ≡ readMore limit (grown v c) s
 unfolding readMore

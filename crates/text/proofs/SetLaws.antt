@@ -12,7 +12,7 @@ use Rattle.roles.specs.Sets.{mostRoles, lastRole, single, joined, setOf}
 use Rattle.text.specs.Ascii.{comma, minus}
 use Rattle.text.specs.Number.{numberText, Got, found, bad, isDigit, digitNext, nextIs, readNumber}
 use Rattle.text.specs.Set.{rolesOf, roleText, rolesText, setText, readRole, readRoles, readSet, Ends}
-use Rattle.text.proofs.NumberLaws.{number-back, number-only, next-is, bad≢found}
+use Rattle.text.proofs.NumberLaws.{number-nothing, number-back, number-only, next-is, bad≢found}
 use Rattle.text.proofs.RoleLists.{From, roles-from, setOf-rolesOf, rolesOf-setOf, setOf-below, setOf-nonempty, joined-setOf, joined-alone}
 
 -- ---- reading, role by role
@@ -41,6 +41,11 @@ pub roles-low : (k s low r : ℕ) (t u : List ℕ) → readNumber lastRole t ≡
 unfolding readRoles readRole
 roles-low zero s low r t u e h = refl
 roles-low (suc k) s low r t u e h = rw (e, lt-ltb r low h) refl
+
+-- an empty text does not read
+pub set-nothing : readSet [] ≡ bad
+unfolding nextIs
+set-nothing = set-roles [] refl ∙ roles-bad mostRoles 0 0 [] (number-nothing lastRole)
 
 -- ---- what was printed reads back
 
