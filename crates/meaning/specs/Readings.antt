@@ -4,6 +4,7 @@
 --     Answered es e a      the trail is recorded, and then the event is answered a
 --     Opens es l           the trail is recorded, and then the open sets are those of l
 --     worked               the trail of the worked case
+--     Readings             what is answered and kept in each
 use mathlib.Core.Path.{_≡_}
 use mathlib.Core.List.{List, [], _∷_, map}
 use Prim.Native.Nat.{ℕ}

@@ -2,7 +2,7 @@
 --     Row, blank           the denied set and the open sets; a permission without a row has neither
 --     Leaves n w h         the row leaves the holder set h possible
 --     Good n w             the layout rules for the sets of a row; how many there may be, and that a row says something, comes with the area
---     mostOpens, fits      a row has room for 15 open sets
+--     mostOpens, fits w    a row has room for 15 open sets
 --     hasPart s l          some set of the list is part of s
 --     hasProperPart s l    some set of the list is part of s, and not s itself
 --     losing s l           the sets of the list, each without s
@@ -11,8 +11,11 @@
 --     denying, allowing, clearing, giving, withdrawing    the steps, over plain sets
 --     contradicts e w      no holder set that the row leaves possible agrees with the event
 --     step e w             the row after the event
---     Settled              an answer with the row afterwards: unchanged, or forgotten
---     settle e w           the answer to the event: 6 contradiction, 0 recorded, else it does not fit (overflow)
+--     Settled              an answer with the row afterwards
+--     unchanged a w        the answer a, and the row as it was
+--     forgotten            the answer 8, and the row is gone
+--     overflow e w         the answer to an event whose new row does not fit: 7 full, 8 forgotten
+--     settle e w           the answer to the event: 6 contradiction, 0 recorded, else `overflow`
 --     rowAfter w es        the row after a trail
 --     Recorded n w es      every event of the trail names known roles and is answered 0 when it arrives
 --     Settles n e w t      t is the answer and the row exactly on their grounds

@@ -1,8 +1,11 @@
 -- The requests of the line program: their texts, the ranges of their numbers, and what bytes read as.
---     letterO, letterA, ..     the letters that lines begin with, as bytes
+--     letterO, letterA, letterD, letterG, letterR, letterQ, letterF, letterS    the letters that lines begin with, as bytes
 --     spaced v, spacedSet s    a number and a set, each behind a space
+--     eventText p e            the line that tells of the happening e about p
 --     requestText q            the line that asks for q, as document 01 writes it
+--     HappeningInRange e       its set or role lies in its range
 --     InRange q                q has a text: its numbers lie in their ranges
+--     told p e                 the request that tells of the happening e about p
 --     byLetter c t             the request of a line with the letter c and then t
 --     requestOf s              the request that a line's bytes say
 use mathlib.Core.Bool.{cond}

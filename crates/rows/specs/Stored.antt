@@ -1,10 +1,11 @@
 -- The values of the code as the rows of `meaning`, and back.
 --     held l               the open sets that `l` holds: its first `count` places
---     padded k, stored k   the open sets of the list k in the first of 16 places, zeros behind them
+--     places               one place more than a row may hold, until a step's result is reduced
+--     padded k, stored k   the open sets of the list k in the first places, zeros behind them
 --     Tidy m l             `l` is so stored, with at most m open sets
 --     rowOf, storedRow     the same for a row
 --     answerNumber, verdictNumber    document 01's number for each case
---     Gives t r          `r` is the answer and the row of t
+--     Gives t r            `r` is the answer and the row of t
 use mathlib.Core.Path.{_≡_}
 use mathlib.Core.List.{List, _++_}
 use Prim.Native.Nat.{ℕ, _+_, _-_, _≤_}

@@ -1,5 +1,5 @@
 -- Numbers as text: decimal without leading zeros. A text is its list of bytes.
---     numberText n          the text of n
+--     digits, numberText n  the text of n
 --     Got                   what reading gives: `found` with the value and the bytes behind its text, or `bad`
 --     isDigit c             c is one of `0` to `9`
 --     digitNext s           s begins with a digit

@@ -4,6 +4,7 @@
 --     roleText later r        the role r, with a comma before it where others stand before it
 --     rolesText later l       the roles of l, the first one as `roleText` has it
 --     setText s               the text of s
+--     readRole more s low g   the role read as g, from `low` on, beside those of s, and behind a comma what `more` reads
 --     readRoles k s low t     at most k roles from `low` on that t begins with, ascending, beside those of s
 --     readSet t               the set that t begins with
 --     Ends t                  neither a digit nor a comma comes next, so a set ends before t
@@ -34,7 +35,6 @@ rolesText later (r ∷ l) = roleText later r ++ rolesText true l
 unfoldable pub setText : ℕ → List ℕ
 setText s = cond (eqb s 0) (minus ∷ []) (rolesText false (rolesOf s))
 
--- the first role, read already, and behind a comma what `more` reads
 unfoldable pub readRole : (ℕ → ℕ → List ℕ → Got) → ℕ → ℕ → Got → Got
 readRole more s low bad = bad
 readRole more s low (found r t) =
