@@ -11,8 +11,9 @@ use Rattle.text.specs.Set.{setText}
 use Rattle.text.specs.Write.{Wrote}
 use Rattle.text.proofs.WriteLaws.{wrote-length}
 use Rattle.text.proofs.Shape.{length-number, length-set-text}
+use Rattle.meaning.specs.Rows.{mostOpens}
 use Rattle.area.specs.State.{Entry}
-use Rattle.answers.specs.Texts.{answerText, setsOf, setsText, rowText}
+use Rattle.answers.specs.Texts.{mostText, answerText, setsOf, setsText, rowText}
 
 pub room-first : (at : ℕ) (t u : List ℕ) {n : ℕ} → at + length (t ++ u) ≤ n → at + length t ≤ n
 room-first at t u h = omega (arith, length-append t u)
@@ -37,15 +38,15 @@ unfolding setsText
 length-sets-text [] = omega arith
 length-sets-text (s ∷ l) = omega (arith, length-append ((space ∷ []) ++ setText s) (setsText l), length-append (space ∷ []) (setText s), length-set-text s, length-sets-text l)
 
-pub length-row : (e : Entry) → e .permission < 2 ^ 32 → length (e .row .opens) ≤ 15 → length (rowText e) ≤ 4096
+pub length-row : (e : Entry) → e .permission < 2 ^ 32 → length (e .row .opens) ≤ mostOpens → length (rowText e) ≤ mostText
 unfolding rowText
 length-row e p k =
     let n = length-number 9 (e .permission) (omega arith) in
-    let few : length (setsOf (e .row)) ≤ 16 = omega (arith, length-append (e .row .opens) (e .row .denied ∷ [])) in
+    let few : length (setsOf (e .row)) ≤ 1 + mostOpens = omega (arith, length-append (e .row .opens) (e .row .denied ∷ [])) in
     let s = length-sets-text (setsOf (e .row)) in
     simp length-append (omega arith)
 
-pub length-answer : (k a : ℕ) → k < 2 ^ 64 → a < 2 ^ 32 → length (answerText k a) ≤ 4096
+pub length-answer : (k a : ℕ) → k < 2 ^ 64 → a < 2 ^ 32 → length (answerText k a) ≤ mostText
 unfolding answerText
 length-answer k a h j =
     let n = length-number 19 k (omega arith) in

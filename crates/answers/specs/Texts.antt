@@ -1,5 +1,6 @@
 -- The texts of answers and rows.
 --     equals              the sign that rows begin with, as a byte
+--     mostText            no answer and no row is longer
 --     answerText k a      line number, space, answer, LF
 --     setsOf, setsText    the sets of a row in the order in which they are printed; sets, a space before each
 --     rowText             `= p denied open open ..`, LF
@@ -13,6 +14,9 @@ use Rattle.text.specs.Set.{setText}
 
 abbrev pub equals : ℕ
 equals = 61
+
+abbrev pub mostText : ℕ
+mostText = 4096
 
 unfoldable pub answerText : ℕ → ℕ → List ℕ
 answerText k a = numberText k ++ (space ∷ []) ++ numberText a ++ lf ∷ []

@@ -13,6 +13,9 @@ ghost use Rattle.calls.specs.Answers.{numberOf, Gives};
 ghost use Rattle.calls.specs.Histories.{outOf, callOf};
 ghost use Rattle.answers.specs.Answers.{Answers, noRows, showAnswer};
 
+// No answer and no row is longer.
+pub const MOST_TEXT: usize = 4096;
+
 // Document 01's number, and the first row to be shown; MOST_ROWS stands for none.
 pub struct Answered {
     pub answer: u32,

@@ -8,7 +8,7 @@ ghost use Prim.Native.Nat.{_+_, _≤_};
 ghost use lib.ListN.{length};
 ghost use Rattle.meaning.specs.Rows.{mostOpens};
 ghost use Rattle.rows.specs.Stored.{Tidy, rowOf};
-ghost use Rattle.table.specs.Table.{entry};
+ghost use Rattle.area.specs.State.{entry};
 ghost use Rattle.text.specs.Ascii.{space};
 ghost use Rattle.text.specs.Set.{setText};
 ghost use Rattle.text.specs.Write.{Wrote};

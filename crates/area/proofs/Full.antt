@@ -6,8 +6,8 @@ use native.Mathlib.Omega.{arith}
 use lib.ListN.{length, getD}
 use Rattle.meaning.specs.Rows.{Row}
 use Rattle.meaning.specs.Events.{lastPermission}
-use Rattle.area.specs.State.{Entry, GoodRow, GoodRows}
-use Rattle.area.proofs.RowLaws.{entry, none}
+use Rattle.area.specs.State.{Entry, GoodRow, GoodRows, entry}
+use Rattle.area.proofs.RowLaws.{none}
 
 -- k rows, of the permissions from p on
 unfoldable pub repeated : Row → ℕ → ℕ → List Entry

@@ -15,10 +15,7 @@ use Rattle.meaning.specs.Rows.{Row, blank, Good, mostOpens}
 use Rattle.meaning.proofs.Kept.{blank-good}
 use Rattle.meaning.specs.Events.{lastPermission}
 use Rattle.area.specs.Layout.{mostRows}
-use Rattle.area.specs.State.{Entry, isBlank, GoodRow, GoodRows, rowFor, one, past, put, place, insertAt, removeAt}
-
-abbrev pub entry : ℕ → Row → Entry
-entry p w = record { permission = p; row = w }
+use Rattle.area.specs.State.{Entry, entry, isBlank, GoodRow, GoodRows, rowFor, one, past, put, place, insertAt, removeAt}
 
 -- what a list of rows has behind its last
 abbrev pub none : Entry

@@ -27,6 +27,9 @@ pub record State : Type 0 where
   pub roles : ℕ
   pub rows : List Entry
 
+abbrev pub entry : ℕ → Row → Entry
+entry p w = record { permission = p; row = w }
+
 -- ---- a good state
 
 -- nothing denied and no open sets
@@ -99,7 +102,7 @@ rowFor p (e ∷ es) = cond (eqb (e .permission) p) (e .row) (rowFor p es)
 
 -- p's row alone, and none where it is blank
 unfoldable pub one : ℕ → Row → List Entry
-one p w = cond (isBlank w) [] (record { permission = p; row = w } ∷ [])
+one p w = cond (isBlank w) [] (entry p w ∷ [])
 
 -- the rows from p on, without p's
 unfoldable pub past : ℕ → List Entry → List Entry

@@ -5,12 +5,11 @@ use mathlib.Core.List.{List, []}
 use Prim.Native.Nat.{ℕ, _≤_}
 use native.Mathlib.Decide.{decLt}
 use native.Mathlib.Omega.{arith}
-use lib.Dec.{T, eqb, ltb, leb, ltb→lt, lt→ltb}
+use lib.Dec.{T, eqb, ltb, leb}
 use lib.ListN.{length}
 use borrow.Author.Tests.{eq-eqb, ne-eqb, le-leb, lt-leb, lt-ltb, le-ltb}
-use Rattle.roles.specs.Sets.{single, allBelow, partOf, mostRoles}
-use Rattle.roles.proofs.Member.{T-true, T-ext}
-use Rattle.roles.proofs.Laws.{partOf-allBelow, single-below, below-single}
+use Rattle.roles.specs.Sets.{allBelow, partOf, mostRoles}
+use Rattle.roles.proofs.Member.{T-true}
 use Rattle.meaning.specs.Rows as meaning
 use Rattle.meaning.specs.Rows.{decide, mostOpens}
 use Rattle.meaning.specs.Events.{lastPermission}
@@ -27,15 +26,6 @@ use Rattle.calls.specs.Answers.{Gives}
 use Rattle.calls.specs.declared.Answer.the-variants.{Recorded, BadArea, BadRoleCount}
 use Rattle.calls.proofs.CallLaws.{valid-law, open-bad-area, open-bad-count, open-recorded, decide-bad-area, decide-no-permission, decide-unknown, decide-decides}
 use Rattle.cache.proofs.Ladder.{gives}
-
--- ---- by value
-
--- a role is below n exactly when its set is known
-pub role-known : (r n : ℕ) → ltb r n ≡ partOf (single r) (allBelow n)
-role-known r n = T-ext (ltb r n) (partOf (single r) (allBelow n)) (
-  (λ h. partOf-allBelow n (single r) .1 (single-below n r (ltb→lt r n h))),
-  λ h. lt→ltb r n (below-single n r (partOf-allBelow n (single r) .0 h)),
-)
 
 -- ---- the row of a permission, by value
 

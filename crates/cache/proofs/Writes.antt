@@ -5,17 +5,16 @@ use mathlib.Core.List.{List}
 use Prim.Native.Nat.{ℕ, _≤_, _<_}
 use native.Mathlib.Omega.{arith}
 use lib.Dec.{T}
-use lib.Pow.{pow-mono}
 use lib.ListN.{length, set}
 use Rattle.words.proofs.Laws.{Bytes}
 use Rattle.roles.specs.Sets.{mostRoles}
-use Rattle.roles.proofs.Laws.{partOf-allBelow}
 use Rattle.meaning.specs.declared.Happening.{Happening}
-use Rattle.meaning.specs.Events.{about, known}
+use Rattle.meaning.specs.Events.{known}
 use Rattle.meaning.specs.Rows.{Row, blank, mostOpens, fits, settle}
+use Rattle.meaning.proofs.Steps.{known-more}
 use Rattle.meaning.proofs.Answers.{fits-law}
 use Rattle.meaning.proofs.Theorems.{settle-fits}
-use Rattle.area.specs.State.{Entry, isBlank, rowFor, withRow, place, insertAt, removeAt, stateOf, areaOf}
+use Rattle.area.specs.State.{Entry, isBlank, rowFor, withRow, place, insertAt, removeAt, stateOf, areaOf, entry}
 use Rattle.area.proofs.RowLaws.{Hit, hit-law, hit-row, miss-row, place-most, put-over, put-new, put-out, put-not}
 use Rattle.area.proofs.Bytes.{good-state, good-area}
 use Rattle.rows.specs.declared.Row as stored-row
@@ -25,7 +24,7 @@ use Rattle.rows.specs.Stored as stored-specs
 use Rattle.rows.specs.Stored.{Tidy, held, rowOf, storedRow, answerNumber}
 use Rattle.rows.proofs.Padded.{stored⇒tidy, stored⇒row, tidy-count}
 use Rattle.table.proofs.RowWords.{opens-few}
-use Rattle.table.specs.Table.{rowsIn, Sound, holding, entry, nth, foundFor}
+use Rattle.table.specs.Table.{rowsIn, Sound, holding, nth, foundFor}
 use Rattle.table.specs.declared.Found.the-variants.{At, Vacant}
 use Rattle.calls.specs.Calls.{eventOn, eventOf}
 use Rattle.cache.proofs.Places.{found-at, found-vacant}
@@ -98,15 +97,10 @@ settled-row e w v r ew g = stored⇒row (r .row) (settle e w .row) (g .row) ∙ 
 
 pub settled-tidy : (e : Happening) (w : stored-row.Row) (r : stored-settled.Settled) → Tidy mostOpens (w .opens) → stored-specs.Gives (settle e (rowOf w)) r → Tidy mostOpens (r .row .opens)
 settled-tidy e w r t g =
-    let few : length (held (w .opens)) ≤ 15 = let f = t .few in omega (arith, tidy-count mostOpens (w .opens) t (omega arith)) in
+    let few : length (held (w .opens)) ≤ mostOpens = let f = t .few in omega (arith, tidy-count mostOpens (w .opens) t (omega arith)) in
     stored⇒tidy mostOpens (r .row .opens) (settle e (rowOf w) .row .opens) (ap (λ (x : stored-row.Row). x .opens) (g .row))
     (fits-law (settle e (rowOf w) .row) .0 (settle-fits e (rowOf w) (fits-law (rowOf w) .1 few)))
 
 -- a known event is known among all roles that there may be
 pub known-64 : (l : List ℕ) → Sound l → (e : Happening) → T (known (stateOf l .roles) e) → T (known mostRoles e)
-unfolding known
-known-64 l s e k =
-    let n = stateOf l .roles in
-    let below = partOf-allBelow n (about e) .0 k in
-    let grows = pow-mono (good-state l (s .good) .most-roles) in
-    partOf-allBelow mostRoles (about e) .1 (omega (arith, below, grows))
+known-64 l s e k = known-more (stateOf l .roles) mostRoles e (good-state l (s .good) .most-roles) k

@@ -4,14 +4,13 @@ use mathlib.Core.Bool.{true, not}
 use mathlib.Core.List.{List}
 use Prim.Native.Nat.{ℕ}
 use lib.Dec.{T, leb}
-use Rattle.roles.specs.Sets.{single, allBelow, joined, partOf}
+use Rattle.roles.specs.Sets.{single, allBelow, joined, setOf, partOf}
 use Rattle.roles.proofs.Member.{T-true, in-empty, partOf-law}
 use Rattle.roles.proofs.Laws.{single-below, partOf-allBelow}
 use Rattle.meaning.specs.declared.Happening.{Happening}
-use Rattle.meaning.specs.Events.{about, known}
+use Rattle.meaning.specs.Events.{rolesIn, known}
 use Rattle.meaning.specs.Rows.{Row, blank, hasPart, fits, contradicts, step, decide, rowAfter}
 use Rattle.meaning.specs.Lists.{any}
-use Rattle.meaning.specs.Readings.{bitsOf}
 use Rattle.meaning.proofs.Theorems as rows
 use Rattle.area.specs.Layout.{goodBytes}
 use Rattle.area.specs.State.{State, Entry, GoodState, isBlank, rowFor, withRow, areaOf}
@@ -34,7 +33,7 @@ reply-event s g p v t ok b =
 
 module _ (s : State) (g : GoodState s) (p : ℕ) (v : T (valid p)) where
   allow-none : replyOf (areaOf s) p 1 0 ≡ stays 6 (areaOf s)
-  unfolding known about contradicts
+  unfolding known rolesIn contradicts
   allow-none = reply-event s g p 1 0 v tt ∙ event-contradicts (areaOf s) s p (replied 1 0) (rowFor p (s .rows)) (T-true _ (empty-part (allBelow (s .roles)))) (T-true _ (empty-part (rowFor p (s .rows) .denied)))
 
   module _ (b : isBlank (rowFor p (s .rows)) ≡ true) where
@@ -46,7 +45,7 @@ module _ (s : State) (g : GoodState s) (p : ℕ) (v : T (valid p)) where
 
     -- nothing is denied, so the rows stay as they are
     deny-none : replyOf (areaOf s) p 0 0 ≡ stays 0 (areaOf s)
-    unfolding known about contradicts hasPart any fits rowAfter bitsOf
+    unfolding known rolesIn contradicts hasPart any fits rowAfter setOf
     deny-none =
         let e : Happening = replied 0 0 in
         let same : step e blank ≡ blank = rows.readings .deny-nobody-makes-no-row in
@@ -59,7 +58,7 @@ module _ (s : State) (g : GoodState s) (p : ℕ) (v : T (valid p)) where
         ∙ ap (λ (es : List Entry). holds 0 (record { roles = s .roles; rows = es })) (put-not p blank (s .rows) miss refl)
 
 pub readings : demands.Readings
-unfolding rowAfter bitsOf single joined
+unfolding rowAfter setOf single joined
 readings = record {
   of-a-row = rows.readings;
   no-row-empty-session = λ s g p v b. decide-none s g p v b 0 10 (empty-part (allBelow (s .roles))) (rows.readings .no-row-empty-session .1);

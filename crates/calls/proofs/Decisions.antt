@@ -6,10 +6,10 @@ use mathlib.Core.Logic.{_↔_, _≢_, Iff·trans}
 use Prim.Native.Nat.{ℕ}
 use borrow.Author.Tests.{ne-eqb}
 use lib.Dec.{T, leb}
-use Rattle.roles.specs.Sets.{allBelow, partOf}
+use Rattle.roles.specs.Sets.{allBelow, Below, partOf}
 use Rattle.roles.proofs.Laws.{partOf-allBelow}
 use Rattle.meaning.specs.declared.Happening.{Happening}
-use Rattle.meaning.specs.Events.{known, HolderSet, Possible, Decides}
+use Rattle.meaning.specs.Events.{known, Possible, Decides}
 use Rattle.meaning.specs.Rows.{Row, blank, contradicts, decide, rowAfter}
 use Rattle.meaning.proofs.Theorems.{row-decides, trail-contradicts}
 use Rattle.area.specs.Layout.{goodBytes}
@@ -25,10 +25,10 @@ use Rattle.calls.proofs.Invariant.{Holds, next-holds, history-holds}
 use Rattle.calls.proofs.Grounds as grounds
 
 -- what decide answers on an area that holds
-decided : (n : ℕ) (h : History) (k : Holds n h) (p s : ℕ) → T (valid p) → HolderSet n s → decideOf (h .area) p s .answer ≡ decide (rowAfter blank (h .trail p)) s
+decided : (n : ℕ) (h : History) (k : Holds n h) (p s : ℕ) → T (valid p) → Below n s → decideOf (h .area) p s .answer ≡ decide (rowAfter blank (h .trail p)) s
 decided n h k p s v b =
     ap (λ (l : List ℕ). decideOf l p s .answer) (k .area)
-    ∙ ap (λ (o : Out). o .answer) (decide-on (k .state) (k .good) p s v (partOf-allBelow (k .state .roles) s .1 (subst⁻¹ (λ (m : ℕ). HolderSet m s) (k .roles) b)))
+    ∙ ap (λ (o : Out). o .answer) (decide-on (k .state) (k .good) p s v (partOf-allBelow (k .state .roles) s .1 (subst⁻¹ (λ (m : ℕ). Below m s) (k .roles) b)))
     ∙ ap (λ (w : Row). decide w s) (k .rows p)
 
 pub demand-2 : demands.Demand2

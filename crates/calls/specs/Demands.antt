@@ -16,10 +16,10 @@ use mathlib.Core.Logic.{_↔_, _≢_, _⊎_}
 use Prim.Native.Nat.{ℕ}
 use lib.Dec.{T, eqb, leb}
 use lib.ListN.{length}
-use Rattle.roles.specs.Sets.{allBelow, partOf, mostRoles}
+use Rattle.roles.specs.Sets.{allBelow, Below, partOf, mostRoles}
 use Rattle.meaning.specs.declared.Event.{Event}
 use Rattle.meaning.specs.declared.Happening.{Happening}
-use Rattle.meaning.specs.Events.{known, agrees, HolderSet, Possible, Decides}
+use Rattle.meaning.specs.Events.{known, agrees, Possible, Decides}
 use Rattle.meaning.specs.Readings as rows
 use Rattle.meaning.specs.Rows.{contradicts, step}
 use Rattle.area.specs.Layout.{areaBytes, goodBytes}
@@ -82,7 +82,7 @@ pub record Demand1 : Type 0 where
 -- ---- demand 2
 
 abbrev pub Demand2 : Type 0
-Demand2 = (l : List ℕ) (n : ℕ) (cs : List Call) → openOf l n .answer ≡ 0 → (p s : ℕ) → T (valid p) → HolderSet n s
+Demand2 = (l : List ℕ) (n : ℕ) (cs : List Call) → openOf l n .answer ≡ 0 → (p s : ℕ) → T (valid p) → Below n s
     → Decides (Possible n (history l n cs .trail p)) s (decideOf (history l n cs .area) p s .answer)
 
 -- the permission that a call is about

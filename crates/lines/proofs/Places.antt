@@ -10,13 +10,13 @@ use lib.Dec.{ltb}
 use lib.ListN.{length, take, drop, length-drop, drop-of-length-le}
 use lib.Seq.{drop-drop, take-all}
 use Rattle.area.specs.Layout.{mostRows, goodBytes}
-use Rattle.area.specs.State.{stateOf}
+use Rattle.area.specs.State.{stateOf, entry}
 use Rattle.area.proofs.RowLaws.{GoodEntry, row-good}
 use Rattle.area.proofs.Bytes.{good-state}
 use Rattle.meaning.specs.Rows.{mostOpens}
 use Rattle.rows.specs.Stored.{Tidy, rowOf}
 use Rattle.rows.proofs.Padded.{stored⇒tidy, stored⇒row}
-use Rattle.table.specs.Table.{rowsIn, nth, entry}
+use Rattle.table.specs.Table.{rowsIn, nth}
 use Rattle.walker.specs.Walk.{walked, given, none, handed, Walkable}
 use Rattle.walker.specs.declared.Handed.{Handed}
 use Rattle.walker.proofs.WalkLaws.{walked-good, walked-few}
@@ -26,12 +26,12 @@ use Rattle.split.specs.Split as split
 use Rattle.split.specs.Split.{heldAll, said, beforeLf, heldIn}
 use Rattle.split.specs.declared.Splitter.{Splitter}
 use Rattle.split.proofs.SplitLaws.{before-most}
-use Rattle.answers.specs.Texts.{answerText, rowText}
+use Rattle.answers.specs.Texts.{mostText, answerText, rowText}
 use Rattle.answers.specs.Answers.{Answers}
 use Rattle.answers.specs.declared.Answered.{Answered}
 use Rattle.answers.proofs.Texts.{length-row}
 use Rattle.lines.specs.Written.{nextNumber}
-use Rattle.lines.specs.Run.{rowShown, shownText, asked, lineRead, lineText, mostText, runAt, rowToShow, placed, Comes, Shown}
+use Rattle.lines.specs.Run.{rowShown, shownText, asked, lineRead, lineText, runAt, rowToShow, placed, Comes, Shown}
 use Rattle.lines.specs.declared.Progress.{Progress}
 
 -- ---- a bad area has no rows

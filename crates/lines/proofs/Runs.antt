@@ -11,7 +11,8 @@ use lib.Seq.{sets}
 use Rattle.text.specs.Ascii.{lf}
 use Rattle.split.specs.Split.{Held, none, isNone, heldAll, beforeLf, whole}
 use Rattle.lines.specs.Written.{programWrites}
-use Rattle.lines.specs.Run.{Place, showing, rowShown, lineRead, mostText, turned, turnText, goesOn, Advances, stops, turns}
+use Rattle.answers.specs.Texts.{mostText}
+use Rattle.lines.specs.Run.{Place, showing, rowShown, lineRead, turned, turnText, goesOn, Advances, stops, turns}
 use Rattle.lines.specs.Program.{start, idle, fedWith, Runs, writes, reads, closes, ends, InRoom, Partly, so-far, within, wrote, read, closed, Prefix, ProgramRuns, AdvancedOne}
 use Rattle.lines.proofs.Turns.{stillTo, advances-still, advances-one}
 use Rattle.lines.proofs.Steps.{effort, turn-less}

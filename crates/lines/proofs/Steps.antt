@@ -17,7 +17,8 @@ use Rattle.requests.specs.declared.Request.{Request}
 use Rattle.requests.specs.declared.Request.the-variants.{Open, Told, Decide, Forget, Show, Unreadable}
 use Rattle.split.specs.Split.{beforeLf}
 use Rattle.answers.specs.Answers.{answerOf, firstShown}
-use Rattle.lines.specs.Run.{Place, placeOf, showing, rowThere, rowShown, shownText, lineEnds, asked, answered, kept, lineRead, lineText, mostText, turned, turnText, goesOn, Advances, stops, turns, runAt, rowToShow, placed, Ready, Comes, Shown, Advanced}
+use Rattle.answers.specs.Texts.{mostText}
+use Rattle.lines.specs.Run.{Place, placeOf, showing, rowThere, rowShown, shownText, lineEnds, asked, answered, kept, lineRead, lineText, turned, turnText, goesOn, Advances, stops, turns, runAt, rowToShow, placed, Ready, Comes, Shown, Advanced}
 use Rattle.lines.specs.declared.Run.{Run}
 use Rattle.lines.specs.declared.Progress.{Progress}
 

@@ -9,7 +9,8 @@ use borrow.Author.Tests.{ltb-true, ltb-false}
 use lib.ListN.{length, drop, length-append, drop-of-length-le}
 use lib.Seq.{drop-cons}
 use Rattle.area.specs.Layout.{mostRows, goodBytes}
-use Rattle.table.specs.Table.{nth, entry}
+use Rattle.area.specs.State.{entry}
+use Rattle.table.specs.Table.{nth}
 use Rattle.meaning.specs.Rows.{blank}
 use Rattle.walker.specs.Walk.{walked, firstRow}
 use Rattle.walker.proofs.WalkLaws.{walked-few, walked-bad, first-good, first-bad}

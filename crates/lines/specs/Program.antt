@@ -21,7 +21,8 @@ use Rattle.area.specs.Layout.{mostRows, areaBytes}
 use Rattle.text.specs.Ascii.{lf}
 use Rattle.split.specs.Split.{none, isNone, whole, heldIn}
 use Rattle.lines.specs.Written.{programWrites}
-use Rattle.lines.specs.Run.{Place, showing, mostText, Advances, Advanced}
+use Rattle.answers.specs.Texts.{mostText}
+use Rattle.lines.specs.Run.{Place, showing, Advances, Advanced}
 use Rattle.lines.specs.declared.Run.{Run}
 use Rattle.lines.specs.declared.Progress.{Progress}
 

@@ -9,7 +9,6 @@
 --     answered, kept      a request answered; the line kept where it does not end yet
 --     lineRead, lineText  the one or the other, and what is written
 --     turned, turnText    one turn: where it comes to, and what it writes
---     mostText            no turn writes more
 --     goesOn room m       a turn is taken while there is something to do, and room for what it writes
 --     Advances room m k t turns are taken from m on as long as it goes on: they come to k and write t
 --     runAt, rowToShow    a run at another row; the row to go on with, where a bad area has none
@@ -27,7 +26,7 @@ use Rattle.text.specs.Write.{Wrote}
 use Rattle.requests.specs.declared.Request.{Request}
 use Rattle.split.specs.Split.{Held, none, heldAll, said, beforeLf, heldIn}
 use Rattle.answers.specs.Answers.{answerOf, firstShown}
-use Rattle.answers.specs.Texts.{answerText, rowText}
+use Rattle.answers.specs.Texts.{mostText, answerText, rowText}
 use Rattle.lines.specs.Written.{nextNumber}
 use Rattle.lines.specs.declared.Run.{Run}
 use Rattle.lines.specs.declared.Progress.{Progress}
@@ -80,9 +79,6 @@ unfoldable pub lineText : Place → List ℕ
 lineText m = cond (lineEnds m) (answerText (m .number) (answerOf (m .area) (asked m) .answer)) []
 
 -- ---- turns
-
-abbrev pub mostText : ℕ
-mostText = 4096
 
 unfoldable pub turned : Place → Place
 turned m = cond (showing m) (rowShown m) (lineRead m)

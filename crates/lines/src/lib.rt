@@ -1,4 +1,5 @@
 // The line program, from a piece of its input to the bytes written for it.
+use answers::MOST_TEXT;
 use answers::answer;
 use answers::write::write_answer;
 use answers::write::write_row;
@@ -16,11 +17,9 @@ ghost use lib.Dec.{leb, ltb};
 ghost use lib.ListN.{length, replicate};
 ghost use Rattle.area.specs.Layout.{mostRows, areaBytes};
 ghost use Rattle.walker.specs.Walk.{Walkable};
-ghost use Rattle.lines.specs.Run.{mostText, placeOf, lineRead, lineText, turned, turnText, runAt, rowToShow, placed, Ready, Comes, Shown, Advanced};
+ghost use Rattle.answers.specs.Texts.{mostText};
+ghost use Rattle.lines.specs.Run.{placeOf, lineRead, lineText, turned, turnText, runAt, rowToShow, placed, Ready, Comes, Shown, Advanced};
 ghost use Rattle.lines.specs.Program.{start};
-
-// Room for what one turn writes.
-pub const MOST_TEXT: usize = 4096;
 
 // The line so far, its number, and the next row to be shown; MOST_ROWS and more stand for none.
 pub struct Run {

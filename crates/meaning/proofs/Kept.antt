@@ -9,7 +9,7 @@ use lib.Pow.{pow-pos}
 use Rattle.roles.specs.Sets.{single, joined, without, shares, partOf}
 use Rattle.roles.proofs.Member.{in-without, set-ext, some-in, shares-law, partOf-law, outside-law}
 use Rattle.roles.proofs.Laws.{in⇒nonempty, in-own-single, shares-at, shares-partOf, shares-joined, joined-below, without-below, without-partOf, without-apart}
-use Rattle.meaning.specs.Events.{about, known}
+use Rattle.meaning.specs.Events.{rolesIn, known}
 use Rattle.meaning.specs.Lists.{Mem, put}
 use Rattle.meaning.specs.Rows.{Row, blank, Good, hasPart, losing, apart, reduce, denying, allowing, clearing, giving, withdrawing, contradicts, step}
 use Rattle.meaning.proofs.ListLaws.{put-law, put-ascending, ascending-ext}
@@ -110,7 +110,7 @@ single-not-denied r w =
 
 -- a good row stays good where a known event does not contradict it
 pub step-good : (n : ℕ) (w : Row) (e : Happening) → Good n w → T (known n e) → T (not (contradicts e w)) → Good n (step e w)
-unfolding step contradicts about giving
+unfolding step contradicts rolesIn giving
 step-good n w (Allow s) g k c = allowing-good n w g (s .bits) (known-below n (Allow s) k) c
 step-good n w (Deny s) g k c = denying-good n w g (s .bits) (known-below n (Deny s) k) c
 step-good n w (Given r) g k c = allowing-good n (clearing (single r) w) (clearing-good n w g (single r)) (single r) (known-below n (Given r) k) (single-not-denied r w)

@@ -1,13 +1,13 @@
 -- The readings hold: each is computed from the definitions. Assumes nothing.
 use mathlib.Core.Path.{refl}
 use Rattle.roles.specs.Sets.{single, allBelow, joined, common, without, setOf, shares, partOf}
-use Rattle.meaning.specs.Events.{about, known}
+use Rattle.meaning.specs.Events.{rolesIn, known}
 use Rattle.meaning.specs.Lists.{any, keep, put, inOrder}
 use Rattle.meaning.specs.Rows.{hasPart, hasProperPart, losing, apart, reduce, denying, allowing, clearing, giving, withdrawing, contradicts, step, fits, overflow, settle, rowAfter, decide}
 use Rattle.meaning.specs.Readings.{Readings}
 
 pub readings : Readings
-unfolding single allBelow joined common without setOf shares partOf about known any keep put inOrder hasPart hasProperPart losing apart reduce denying allowing clearing giving withdrawing contradicts step fits overflow settle rowAfter decide
+unfolding single allBelow joined common without setOf shares partOf rolesIn known any keep put inOrder hasPart hasProperPart losing apart reduce denying allowing clearing giving withdrawing contradicts step fits overflow settle rowAfter decide
 readings = record {
   no-row-empty-session = (tt, refl);
   no-row-role-0 = (tt, refl);

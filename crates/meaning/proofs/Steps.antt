@@ -1,13 +1,15 @@
 -- Each step changes the possible holder sets exactly as its event does. Assumes nothing.
 use mathlib.Core.Path.{_≡_, refl, subst, subst⁻¹}
 use mathlib.Core.List.{_∷_}
-use mathlib.Core.Logic.{_↔_, _⊎_, inl, inr, ⊎-elim}
-use Prim.Native.Nat.{ℕ, _^_, _<_}
+use mathlib.Core.Logic.{_↔_, inl, inr, ⊎-elim}
+use Prim.Native.Nat.{ℕ, _^_, _≤_, _<_}
+use native.Mathlib.Omega.{arith}
 use lib.Dec.{T, T-not, not-T}
-use Rattle.roles.specs.Sets.{In, single, joined, without, shares}
+use lib.Pow.{pow-mono}
+use Rattle.roles.specs.Sets.{In, single, Below, joined, without, shares}
 use Rattle.roles.proofs.Member.{T?, in?, in-single, in-joined, in-without, set-ext, shares-law}
 use Rattle.roles.proofs.Laws.{in-own-single, single-below, below-single, partOf-allBelow, shares-at, shares-single, shares-joined, shares-without, joined-below, without-below, without-apart}
-use Rattle.meaning.specs.Events.{about, known, agrees, after, Effect}
+use Rattle.meaning.specs.Events.{rolesIn, known, agrees, after, Effect}
 use Rattle.meaning.specs.Lists.{Mem}
 use Rattle.meaning.specs.Rows.{Row, Leaves, Good, losing, denying, allowing, clearing, giving, withdrawing, step}
 use Rattle.meaning.proofs.OpenLaws.{apart-law, reduce-meets, losing-meets}
@@ -152,12 +154,17 @@ module _ (n : ℕ) (w : Row) (g : Good n w) where
 -- ---- any event
 
 -- the roles that a known event names lie below n
-pub known-below : (n : ℕ) (e : Happening) → T (known n e) → about e < 2 ^ n
+pub known-below : (n : ℕ) (e : Happening) → T (known n e) → Below n (rolesIn e)
 unfolding known
-known-below n e = partOf-allBelow n (about e) .0
+known-below n e = partOf-allBelow n (rolesIn e) .0
+
+-- what is known among n roles is known among more
+pub known-more : (n m : ℕ) (e : Happening) → n ≤ m → T (known n e) → T (known m e)
+unfolding known
+known-more n m e h k = let below = known-below n e k in partOf-allBelow m (rolesIn e) .1 (omega (arith, below, pow-mono h))
 
 pub step-leaves : (n : ℕ) (w : Row) (e : Happening) → Good n w → T (known n e) → (h : ℕ) → Leaves n (step e w) h ↔ Effect (Leaves n w) e h
-unfolding step agrees after about
+unfolding step agrees after rolesIn
 step-leaves n w (Allow s) g k h =
     let law = allowing-leaves n (s .bits) w in (
       (λ m. let p = law h .0 m in (h, p .0, p .1, refl)),

@@ -127,5 +127,6 @@ pub readings : Readings
 readings = read.readings
 
 -- a good row with 15 open sets
-pub full-row : (w : Row) × Good 16 w × (length (w .opens) ≡ 15)
-full-row = (record { denied = 0; opens = one-role.singles 0 mostOpens }, one-role.singles-good 16 mostOpens (omega arith), one-role.length-singles 0 mostOpens)
+pub full-row : (w : Row) × Good 16 w × (length (w .opens) ≡ 15) × T (fits w)
+unfolding fits one-role.singles
+full-row = (record { denied = 0; opens = one-role.singles 0 mostOpens }, one-role.singles-good 16 mostOpens (omega arith), one-role.length-singles 0 mostOpens, tt)

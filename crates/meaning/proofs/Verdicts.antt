@@ -7,7 +7,7 @@ use lib.Dec.{T, T-not, eqb, eqb-refl}
 use Rattle.roles.specs.Sets.{In, allBelow, without, shares, partOf}
 use Rattle.roles.proofs.Member.{T?, in?, in-allBelow, in-without, shares-law, partOf-law, outside-law, below-law, some-in}
 use Rattle.roles.proofs.Laws.{shares-at, shares-partOf, allBelow-below, without-below, without-apart}
-use Rattle.meaning.specs.Events.{about, known, agrees, HolderSet, NoneShares, AllShare, OneShares, OneShares-not, Decides}
+use Rattle.meaning.specs.Events.{rolesIn, known, agrees, HolderSet, NoneShares, AllShare, OneShares, OneShares-not, Decides}
 use Rattle.meaning.specs.Lists.{Mem}
 use Rattle.meaning.specs.Rows.{Row, Leaves, Good, hasPart, contradicts, decide}
 use Rattle.meaning.proofs.OpenLaws.{hasPart-law, noPart-law}
@@ -67,7 +67,7 @@ module _ (n : ℕ) (w : Row) (g : Good n w) where
 -- an event contradicts a good row exactly when no holder set that the row leaves possible agrees with it
 pub contradicts-law : (n : ℕ) (w : Row) (e : Happening) → Good n w → T (known n e)
     → T (contradicts e w) ↔ ((h : ℕ) → Leaves n w h → ¬ (T (agrees e h)))
-unfolding contradicts agrees about
+unfolding contradicts agrees rolesIn
 contradicts-law n w (Allow s) g k = denied-law n w g (s .bits) (known-below n (Allow s) k)
 contradicts-law n w (Deny s) g k = (
   (λ t h m d. T-not (shares h (s .bits)) d (allowed-law n w g (s .bits) .0 t h m)),

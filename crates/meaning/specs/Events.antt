@@ -1,6 +1,7 @@
--- What events mean: the holder sets that a trail of them leaves possible, and the verdict that those force.
+-- What events mean: the holder sets that a trail of them leaves possible, and the verdict that those force. A session may
+-- use a permission exactly when one of its roles holds it, as ANSI INCITS 359-2004 has it: it shares a role with the holder set.
 --     lastPermission       permissions are 1 to this one
---     about e              the roles that an event names
+--     rolesIn e            the roles that an event names
 --     known n e            they all lie below the role count n
 --     agrees e h           the holder set h agrees with the event as it arrives
 --     after e h            the holder set h after the event
@@ -16,23 +17,23 @@ use mathlib.Core.Path.{_≡_}
 use mathlib.Core.Bool.{Bool, true, not}
 use mathlib.Core.List.{List, [], _∷_}
 use mathlib.Core.Logic.{_↔_, _⊎_}
-use Prim.Native.Nat.{ℕ, _^_, _<_}
+use Prim.Native.Nat.{ℕ}
 use lib.Dec.{T}
-use Rattle.roles.specs.Sets.{single, allBelow, joined, without, shares, partOf}
+use Rattle.roles.specs.Sets.{single, allBelow, Below, joined, without, shares, partOf}
 use Rattle.meaning.specs.declared.Happening.{Happening}
 use Rattle.meaning.specs.declared.Happening.the-variants.{Allow, Deny, Given, Withdrawn}
 
 abbrev pub lastPermission : ℕ
 lastPermission = 4294967295
 
-unfoldable pub about : Happening → ℕ
-about (Allow s) = s .bits
-about (Deny s) = s .bits
-about (Given r) = single r
-about (Withdrawn r) = single r
+unfoldable pub rolesIn : Happening → ℕ
+rolesIn (Allow s) = s .bits
+rolesIn (Deny s) = s .bits
+rolesIn (Given r) = single r
+rolesIn (Withdrawn r) = single r
 
 unfoldable pub known : ℕ → Happening → Bool
-known n e = partOf (about e) (allBelow n)
+known n e = partOf (rolesIn e) (allBelow n)
 
 -- an allow reply on s keeps the holder sets that share a role with s; a deny reply keeps those that share none
 unfoldable pub agrees : Happening → ℕ → Bool
@@ -59,7 +60,7 @@ abbrev pub Reached : (ℕ → Type 0) → List Happening → ℕ → Type 0
 Reached P es h = (h₀ : ℕ) × P h₀ × Becomes es h₀ h
 
 abbrev pub HolderSet : ℕ → ℕ → Type 0
-HolderSet n h = h < 2 ^ n
+HolderSet n h = Below n h
 
 abbrev pub Possible : ℕ → List Happening → ℕ → Type 0
 Possible n = Reached (HolderSet n)

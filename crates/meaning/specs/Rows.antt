@@ -24,10 +24,10 @@ use mathlib.Core.Path.{_≡_}
 use mathlib.Core.Bool.{Bool, false, not, cond, _&&_}
 use mathlib.Core.List.{List, [], _∷_, map}
 use mathlib.Core.Logic.{_↔_, _≢_, _⊎_}
-use Prim.Native.Nat.{ℕ, _^_, _≤_, _<_}
+use Prim.Native.Nat.{ℕ, _≤_, _<_}
 use lib.Dec.{T, eqb, leb}
 use lib.ListN.{length}
-use Rattle.roles.specs.Sets.{single, joined, without, shares, partOf}
+use Rattle.roles.specs.Sets.{single, Below, joined, without, shares, partOf}
 use Rattle.meaning.specs.Events.{HolderSet, known, agrees, Reply}
 use Rattle.meaning.specs.Lists.{Mem, Ascending, any, keep, inOrder}
 use Rattle.meaning.specs.declared.Happening.{Happening}
@@ -47,8 +47,8 @@ pub record Leaves (n : ℕ) (w : Row) (h : ℕ) : Type 0 where
   pub meets : (o : ℕ) → Mem o (w .opens) → T (shares h o)
 
 pub record Good (n : ℕ) (w : Row) : Type 0 where
-  pub denied-below : w .denied < 2 ^ n
-  pub below : (o : ℕ) → Mem o (w .opens) → o < 2 ^ n
+  pub denied-below : Below n (w .denied)
+  pub below : (o : ℕ) → Mem o (w .opens) → Below n o
   pub nonempty : (o : ℕ) → Mem o (w .opens) → o ≢ 0
   pub apart-from-denied : (o : ℕ) → Mem o (w .opens) → ¬ (T (shares o (w .denied)))
   pub ascending : Ascending (w .opens)

@@ -18,7 +18,7 @@ use Rattle.text.specs.Number.{numberText}
 use Rattle.text.proofs.Shape.{lacks-append}
 use Rattle.text.proofs.Theorems.{number32-length, set-length, number-lacks-lf, set-lacks-lf}
 use Rattle.requests.specs.Fields.{lastCount}
-use Rattle.requests.specs.Request.{letterO, letterA, letterD, letterG, letterR, letterQ, letterF, letterS, spaced, spacedSet, eventText, requestText, HappeningInRange, InRange, told, byLetter, requestOf}
+use Rattle.requests.specs.Request.{mostBytes, letterO, letterA, letterD, letterG, letterR, letterQ, letterF, letterS, spaced, spacedSet, eventText, requestText, HappeningInRange, InRange, told, byLetter, requestOf}
 use Rattle.requests.specs.declared.Request.{Request}
 use Rattle.requests.specs.declared.Request.the-variants.{Open, Told, Decide, Forget, Show, Unreadable}
 use Rattle.requests.proofs.FieldLaws.{number-last-back, permission-set-back, permission-role-back, ended-only, number-last-only, permission-set-only, permission-role-only}
@@ -89,20 +89,20 @@ no-letter c t o a d g r q f s =
 -- ---- the shape of texts
 
 -- a letter and a permission, and then a set or a role
-with-set-length : (c p : ℕ) (s : RoleSet) → p ≤ lastPermission → length (c ∷ (spaced p ++ spacedSet s)) ≤ 200
+with-set-length : (c p : ℕ) (s : RoleSet) → p ≤ lastPermission → length (c ∷ (spaced p ++ spacedSet s)) ≤ mostBytes
 with-set-length c p s h = let a = number32-length p (omega arith) in let b = set-length (s .bits) in omega (arith, length-append (numberText p) (spacedSet s))
 
-with-role-length : (c p r : ℕ) → p ≤ lastPermission → r ≤ lastRole → length (c ∷ (spaced p ++ spaced r)) ≤ 200
+with-role-length : (c p r : ℕ) → p ≤ lastPermission → r ≤ lastRole → length (c ∷ (spaced p ++ spaced r)) ≤ mostBytes
 with-role-length c p r h k = let a = number32-length p (omega arith) in let b = number32-length r (omega arith) in omega (arith, length-append (numberText p) (spaced r))
 
-event-length : (p : ℕ) (h : Happening) → p ≤ lastPermission → HappeningInRange h → length (eventText p h) ≤ 200
+event-length : (p : ℕ) (h : Happening) → p ≤ lastPermission → HappeningInRange h → length (eventText p h) ≤ mostBytes
 unfolding eventText
 event-length p (Allow s) k w = with-set-length letterA p s k
 event-length p (Deny s) k w = with-set-length letterD p s k
 event-length p (Given r) k w = with-role-length letterG p r k w
 event-length p (Withdrawn r) k w = with-role-length letterR p r k w
 
-pub request-length : (q : Request) → InRange q → length (requestText q) ≤ 200
+pub request-length : (q : Request) → InRange q → length (requestText q) ≤ mostBytes
 unfolding requestText
 request-length (Open n) h = let a = number32-length n (omega arith) in omega arith
 request-length (Told e) h = event-length (e .permission) (e .happening) (h .0) (h .1)

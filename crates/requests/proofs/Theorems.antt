@@ -5,7 +5,7 @@ use mathlib.Core.Logic.{_↔_, _⊎_, ⊎-elim}
 use Prim.Native.Nat.{ℕ, _≤_}
 use lib.ListN.{length}
 use Rattle.text.specs.Ascii.{lf, Lacks}
-use Rattle.requests.specs.Request.{requestText, InRange, requestOf}
+use Rattle.requests.specs.Request.{mostBytes, requestText, InRange, requestOf}
 use Rattle.requests.specs.Readings.{Readings}
 use Rattle.requests.specs.declared.Request.{Request}
 use Rattle.requests.specs.declared.Request.the-variants.{Unreadable}
@@ -28,7 +28,7 @@ request-law s q = (
 )
 
 -- every request that has a text fits a line
-pub request-length : (q : Request) → InRange q → length (requestText q) ≤ 200
+pub request-length : (q : Request) → InRange q → length (requestText q) ≤ mostBytes
 request-length = laws.request-length
 
 -- no text of a request holds what ends a line

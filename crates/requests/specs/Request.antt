@@ -1,4 +1,5 @@
 -- The requests of the line program: their texts, the ranges of their numbers, and what bytes read as.
+--     mostBytes                how many bytes a line may have before its LF
 --     letterO, letterA, letterD, letterG, letterR, letterQ, letterF, letterS    the letters that lines begin with, as bytes
 --     spaced v, spacedSet s    a number and a set, each behind a space
 --     eventText p e            the line that tells of the happening e about p
@@ -23,6 +24,9 @@ use Rattle.text.specs.Set.{setText}
 use Rattle.requests.specs.Fields.{lastCount, ended, lastNumber, permissionSet, permissionRole}
 use Rattle.requests.specs.declared.Request.{Request}
 use Rattle.requests.specs.declared.Request.the-variants.{Open, Told, Decide, Forget, Show, Unreadable}
+
+abbrev pub mostBytes : ℕ
+mostBytes = 200
 
 abbrev pub letterO : ℕ
 letterO = 79

@@ -6,7 +6,7 @@ use mathlib.Core.Bool.{false}
 use native.Mathlib.Nat.{mod-eq-of-lt, lt-of-lt-of-le}
 use native.Mathlib.Omega.{arith}
 use lib.Bits.{and-le-r}
-use lib.Dec.{T, leb, leb→le, le→leb}
+use lib.Dec.{T, ltb, leb, leb→le, le→leb, ltb→lt, lt→ltb}
 use lib.Pow.{pow-lt, pow-mono, ones-lt}
 use Rattle.roles.specs.Sets.{mostRoles, has, In, single, allBelow, below64, joined, common, without, shares, partOf}
 use Rattle.roles.proofs.Member.{T-ext, in-empty, in-single, in-allBelow, in-joined, in-common, in-without, set-ext, shares-law, partOf-law, below-law, in-below64}
@@ -94,6 +94,13 @@ pub leb-allBelow : (n s : ℕ) → T (leb s (allBelow n)) ↔ (s < 2 ^ n)
 leb-allBelow n s = (
   (λ h. let a = leb→le s (allBelow n) h in let b = allBelow-below n in omega arith),
   λ h. le→leb s (allBelow n) (partOf-le s (allBelow n) (partOf-allBelow n s .1 h)),
+)
+
+-- the role r is below n exactly when its set is part of all roles below n
+pub single-partOf : (r n : ℕ) → ltb r n ≡ partOf (single r) (allBelow n)
+single-partOf r n = T-ext (ltb r n) (partOf (single r) (allBelow n)) (
+  (λ h. partOf-allBelow n (single r) .1 (single-below n r (ltb→lt r n h))),
+  λ h. lt→ltb r n (below-single n r (partOf-allBelow n (single r) .0 h)),
 )
 
 -- ---- shares

@@ -4,6 +4,7 @@
 --     has s r, In s r    role r is in s
 --     single r           the set of the role r alone
 --     allBelow n         the set of all roles below n
+--     Below n s          all roles of s lie below n
 --     below64 s          the roles of s below 64: all that a `RoleSet` can hold
 --     partOf s t         every role of s is in t
 --     shares s t         some role is in both
@@ -13,7 +14,7 @@
 --     setOf l            the set of the roles of a list
 use mathlib.Core.Bool.{Bool, not}
 use mathlib.Core.List.{List, [], _∷_}
-use Prim.Native.Nat.{ℕ, _-_, _/_, _%_, _^_}
+use Prim.Native.Nat.{ℕ, _-_, _/_, _%_, _^_, _<_}
 use lib.Bits.{bitAnd, bitOr, bitXor}
 use lib.Dec.{T, eqb}
 
@@ -34,6 +35,9 @@ single r = 2 ^ r
 
 unfoldable pub allBelow : ℕ → ℕ
 allBelow n = 2 ^ n - 1
+
+abbrev pub Below : ℕ → ℕ → Type 0
+Below n s = s < 2 ^ n
 
 unfoldable pub below64 : ℕ → ℕ
 below64 s = s % 2 ^ mostRoles

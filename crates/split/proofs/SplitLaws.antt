@@ -13,7 +13,8 @@ use lib.ListN.{length, take, drop, getD, set, length-append, drop-of-length-le}
 use lib.Seq.{take-suc, take-suc-set}
 use Rattle.text.specs.Ascii.{lf}
 use Rattle.meaning.proofs.Walks.{drop-next}
-use Rattle.split.specs.Split.{mostBytes, Held, short, long, none, isNone, heldThen, heldAll, linesFrom, ended, left, linesCut, whole, beforeLf, heldIn}
+use Rattle.requests.specs.Request.{mostBytes}
+use Rattle.split.specs.Split.{Held, short, long, none, isNone, heldThen, heldAll, linesFrom, ended, left, linesCut, whole, beforeLf, heldIn}
 use Rattle.split.specs.declared.Splitter.{Splitter}
 
 -- ---- what a splitter keeps

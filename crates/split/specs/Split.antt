@@ -1,6 +1,5 @@
 -- Input bytes as lines: a line ends with LF and has at most 200 bytes before it, and a last line without LF counts if it
 -- is not empty.
---     mostBytes          how many bytes a line may have before its LF
 --     Held               a line, as it is kept: its bytes, or that there are too many
 --     none, isNone       no byte yet
 --     heldThen, heldAll  one byte more; bytes more
@@ -20,11 +19,8 @@ use lib.ListN.{length, take}
 use Rattle.text.specs.Ascii.{lf}
 use Rattle.requests.specs.declared.Request.{Request}
 use Rattle.requests.specs.declared.Request.the-variants.{Unreadable}
-use Rattle.requests.specs.Request.{requestOf}
+use Rattle.requests.specs.Request.{mostBytes, requestOf}
 use Rattle.split.specs.declared.Splitter.{Splitter}
-
-abbrev pub mostBytes : ℕ
-mostBytes = 200
 
 pub data Held : Type 0 where
   short : List ℕ → Held
@@ -77,6 +73,6 @@ unfoldable pub beforeLf : List ℕ → ℕ
 beforeLf [] = 0
 beforeLf (b ∷ bs) = cond (eqb b lf) 0 (suc (beforeLf bs))
 
--- more than 200 bytes say that the line is too long
+-- more than `mostBytes` say that the line is too long
 abbrev pub heldIn : Splitter → Held
 heldIn s = cond (leb (s .len) mostBytes) (short (take (s .len) (s .bytes))) long

@@ -1,13 +1,11 @@
 // Input bytes as lines: the line so far, and where a line ends.
+use requests::MOST_BYTES;
 use requests::Request;
 use requests::read_request;
 ghost use mathlib.Core.Path.{_≡_};
 ghost use Prim.Native.Nat.{_+_};
 ghost use lib.ListN.{drop};
 ghost use Rattle.split.specs.Split.{none, isNone, heldAll, said, beforeLf, heldIn};
-
-// What a line may have before its LF.
-pub const MOST_BYTES: usize = 200;
 
 // The line so far: the first `len` of `bytes`. A `len` above MOST_BYTES says that it is too long.
 pub struct Splitter {

@@ -5,6 +5,7 @@ use mathlib.Core.List.{[]}
 use native.Mathlib.Omega.{arith}
 use lib.ListN.{length}
 use Rattle.cache.proofs.Places.{bytes-are}
+use Rattle.area.specs.Layout.{areaBytes}
 use Rattle.cache.proofs.Calling.{open-1, open-2, open-go}
 use Rattle.cache.proofs.open.Statement.{statement}
 use Rattle.cache.proofs.open.Tie as tie
@@ -21,7 +22,7 @@ returns-3 c =
     let t = k .before .before in
     let s = t .before .before .before in
     let end = k .clear-all .last .0 in
-    let len : length end ≡ 18448 = omega (arith, t .before .if1 .left) in
+    let len : length end ≡ areaBytes = omega (arith, t .before .if1 .left) in
     open-go (s .args .a .now) (s .args .n) end (t .before .if1 .left) (t .if2 .left)
     (bytes-are end (record { roles = s .args .n; rows = [] }) (λ p. c .slice-known2 .given p .fits) len (k .clear-all .ensures))
 

@@ -9,8 +9,8 @@ use lib.ListN.{length, set, length-set}
 use lib.Seq.{length-take-le}
 use Rattle.meaning.specs.Rows.{Row, mostOpens}
 use Rattle.rows.specs.Stored.{rowOf}
+use Rattle.area.specs.State.{entry}
 use Rattle.rows.proofs.Padded.{tidy-few}
-use Rattle.table.specs.Table.{entry}
 use Rattle.text.specs.Ascii.{space, lf}
 use Rattle.text.specs.Number.{numberText}
 use Rattle.text.specs.Set.{setText}

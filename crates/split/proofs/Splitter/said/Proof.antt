@@ -5,7 +5,8 @@ use Prim.Native.Nat.{_≤_}
 use native.Mathlib.Omega.{arith}
 use lib.ListN.{length}
 use lib.Seq.{length-take-le}
-use Rattle.split.specs.Split.{mostBytes, said}
+use Rattle.requests.specs.Request.{mostBytes}
+use Rattle.split.specs.Split.{said}
 use Rattle.split.proofs.SplitLaws.{held-short, held-long}
 use Rattle.split.proofs.Splitter.said.Statement.{statement}
 use Rattle.split.proofs.Splitter.said.Tie as tie

@@ -7,7 +7,8 @@ use native.Mathlib.Nat.{add-zero}
 use native.Mathlib.Omega.{arith}
 use lib.ListN.{length, take, getD, length-set}
 use lib.Seq.{length-take-le, take-all}
-use Rattle.split.specs.Split.{mostBytes, Held, short, heldAll}
+use Rattle.requests.specs.Request.{mostBytes}
+use Rattle.split.specs.Split.{Held, short, heldAll}
 use Rattle.split.proofs.SplitLaws.{held-short, held-long, all-long, all-over, all-fits, then-one}
 use Rattle.split.proofs.Splitter.then.Statement.{statement}
 use Rattle.split.proofs.Splitter.then.Tie as tie
