@@ -13,12 +13,16 @@
 --                 | ..         | ..                                      |
 --     word 2306   +------------+-----------------------------------------+    everything unused is zero
 --
---     mostRows .. areaBytes             the numbers
+--     mostRows, areaWords, areaBytes    how many rows, words and bytes there are
+--     roleCountAt, rowsUsedAt           where the header's words stand
+--     contentsAt, bodiesAt              where the two parts behind it start
+--     contentWords, bodyWords           how many words an entry of the contents and a body have
 --     roleCount, rowsUsed               the header's words
 --     contents, bodies                  the two parts behind it
 --     contentAt, bodyAt                 contents entry i, body i
 --     permissionAt, countAt             the two words of an entry
 --     deniedAt, placesAt, opensAt       the denied set, the 15 places, the open sets in the first of them
+--     permissionBefore, eachBelow       the permission of the row before; a test holds of each number below n
 --     rowRules, areaRules               the rules for a row, the area, over the area's words
 --     goodRowAt, goodArea               all of them hold
 --     goodBytes                         the bytes are a good area

@@ -1,11 +1,16 @@
 -- What an area holds: the role count and the rows by ascending permission; and the bytes that it is written as.
---     Entry, State         a permission with its row; the role count with the rows
---     GoodState            the rules of a good area, as rules of what it holds
+--     Entry, entry, State  a permission with its row; the role count with the rows
+--     isBlank w            the row says nothing
+--     GoodRow, GoodRows, GoodState    the rules of a good area, as rules of what it holds
+--     content, body, header           the words of an entry of the contents, of a body, of the header
+--     pad, each            so many places, zeros behind; something of each row, one after the other
 --     areaOf s             the bytes of a state: contents first, then bodies, zeros behind them
 --     stateOf l            the state that the bytes hold
 --     wordsOf, heldBy      the same two between a state and words
+--     entryAt, entriesFrom the row of number i; so many rows from it on
 --     rowFor p es          the row of a permission, blank where it has none
---     put p w es           the rows with w as the row of p: a blank row is no row
+--     put p w es           the rows with w as the row of p: a blank row is no row (`one`), and p's old one goes (`past`)
+--     withRow s p w        the state with w as the row of p
 --     place p es           how many rows of smaller permissions come first
 --     insertAt, removeAt   a row more at a place, a row less
 use mathlib.Core.Bool.{Bool, not, cond, _&&_}

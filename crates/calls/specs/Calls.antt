@@ -2,8 +2,9 @@
 --     Out                   an answer with the bytes afterwards: the area stays, or holds a state
 --     valid, isReply        a permission is 1 to 4,294,967,295; the event is a reply
 --     fitsIn s p w          w fits as the row of p: at most 15 open sets, and where it would be a new row, fewer than 128 are used
---     eventOf l p e         an event on a good area: 4, 6, 7 or 8, 0
+--     eventOn, eventOf      an event on a good area: 4, 6, 7 or 8, 0
 --     replied, updated      the happening that a reply's or an update's numbers say
+--     onArea                the refusals that all calls but open share: 1, 3
 --     openOf, replyOf, updateOf, decideOf, forgetOf    the calls, refusals in the order 1, 2, 3, 5, 4, 6, then 7 or 8
 use mathlib.Core.Bool.{Bool, true, false, not, cond, _&&_, _||_}
 use mathlib.Core.List.{List, []}

@@ -1,6 +1,8 @@
 -- The three demands, as statements about the calls' definitions; `proofs/Demands.antt` proves them.
 --     Ground, Exactly        a refusal with its ground; the answer is each number exactly on its ground, in this order
 --     OnGrounds              the answer exactly on its ground, and every answer but 0 and 8 leaves the bytes as they came
+--     IsRecorded a           a is 0: what is left where no ground holds, as a verdict is for decide
+--     openGrounds, areaGrounds, eventGrounds    the grounds of each call, in document 01's order
 --     Demand1                any numbers and any bytes get an answer of the table, each refusal exactly on its ground
 --     Demand2                over every history decide says what the possible holder sets of the trail force
 --     NoOther                events about one permission never change a decision about another
@@ -12,14 +14,14 @@
 use mathlib.Core.Path.{_≡_}
 use mathlib.Core.Bool.{Bool, true, not, _&&_}
 use mathlib.Core.List.{List, [], _∷_}
-use mathlib.Core.Logic.{_↔_, _≢_, _⊎_}
+use mathlib.Core.Logic.{_↔_, _≢_}
 use Prim.Native.Nat.{ℕ}
 use lib.Dec.{T, eqb, leb}
 use lib.ListN.{length}
 use Rattle.roles.specs.Sets.{allBelow, Below, partOf, mostRoles}
 use Rattle.meaning.specs.declared.Event.{Event}
 use Rattle.meaning.specs.declared.Happening.{Happening}
-use Rattle.meaning.specs.Events.{known, agrees, Possible, Decides}
+use Rattle.meaning.specs.Events.{known, agrees, Possible, Verdict, Decides}
 use Rattle.meaning.specs.Readings as rows
 use Rattle.meaning.specs.Rows.{contradicts, step}
 use Rattle.area.specs.Layout.{areaBytes, goodBytes}
@@ -43,12 +45,9 @@ pub record OnGrounds (l : List ℕ) (o : Out) (gs : List Ground) (otherwise : �
   pub exactly : Exactly (o .answer) gs otherwise
   pub unchanged : o .answer ≢ 0 → o .answer ≢ 8 → o .area ≡ l
 
--- where no ground holds: recorded, or a verdict
+-- what is left where no ground holds, but for decide
 abbrev pub IsRecorded : ℕ → Type 0
 IsRecorded a = a ≡ 0
-
-abbrev pub Verdict : ℕ → Type 0
-Verdict a = (a ≡ 10) ⊎ ((a ≡ 11) ⊎ (a ≡ 12))
 
 abbrev pub ground : ℕ → Bool → Ground
 ground a b = record { number = a; holds = b }

@@ -1,6 +1,7 @@
 -- Good open sets: the rules of document 01 for the open sets of a row, in the first of its places. Throughout, `all` is the
 -- set of all roles below n: a set has only such roles exactly when it is at most `all`.
 --     allOf bs                all of the rules hold
+--     belowFirst o l          o is below the first of l
 --     openRules all d o l     the rules for an open set o before those of l, where d is the denied set
 --     opensGood all d l       they hold for each of l
 --     placesGood all d c l    the first c of the places l have good open sets, and the others nothing
@@ -17,7 +18,6 @@ abbrev pub allOf : List Bool → Bool
 allOf [] = true
 allOf (b ∷ bs) = b && allOf bs
 
--- o is below the first of the list
 abbrev pub belowFirst : ℕ → List ℕ → Bool
 belowFirst o [] = true
 belowFirst o (p ∷ l) = ltb o p

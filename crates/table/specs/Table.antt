@@ -2,6 +2,9 @@
 --     rowsIn l         the rows that the bytes l hold
 --     Sound l          the bytes l are a good area
 --     holding l es     the state of l with the rows es in place of its own
+--     nth i es         the row of number i
+--     rowFrom d l      the row that a denied set and open sets make
+--     hasRow p es      p has a row
 --     foundFor p es    where the row of p stands, or would stand
 use mathlib.Core.Bool.{Bool, cond, _&&_}
 use mathlib.Core.List.{List}

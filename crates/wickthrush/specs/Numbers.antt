@@ -1,4 +1,5 @@
--- What a call returns to C: the answer's number, and the bytes of the area afterwards.
+-- What a call returns to C.
+--     Returns o n l    n is the answer's number, and l the bytes of the area afterwards
 use mathlib.Core.Path.{_≡_}
 use mathlib.Core.List.{List}
 use Prim.Native.Nat.{ℕ}

@@ -1,5 +1,9 @@
 -- A list of bytes read as words of 8 bytes, the least significant byte first, and written as such.
+--     tab n f        f 0, f 1, .. : n of them
+--     number         bytes from a place on, as one number
+--     wordAt l i     the word of number i
 --     words l        all whole words of the bytes l
+--     split n x      the n lowest bytes of a number
 --     bytesOf ws     the bytes of the words ws
 --     Spans l n      l has whole words only, and at least n of them
 --     allZero ws     each word is zero
