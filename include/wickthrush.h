@@ -6,9 +6,10 @@
  * Roles are 0 to n - 1, where n is the role count. A role set is a number: role r is its bit of weight 2^r.
  * A permission is any number but 0.
  *
- * The lent area has WICKTHRUSH_AREA_BYTES bytes and may stand at any address. Nothing else is kept: an area may be
- * copied, moved or stored. Areas are independent of each other; the caller sees to it that no call changes an area
- * while another call is using it.
+ * The lent area has WICKTHRUSH_AREA_BYTES bytes and may stand at any address. In each call area points to len bytes that
+ * may be read and, except in decide, written; with len 0 it may be null. Their contents and len may be anything.
+ * Nothing else is kept: an area may be copied, moved or stored. Areas are independent of each other; the caller sees to
+ * it that no call changes an area while another call is using it.
  *
  * Where several refusals apply, the first of this order is given: 1, 2, 3, 5, 4, 6, then 7 or 8.
  */
