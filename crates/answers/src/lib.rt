@@ -46,7 +46,7 @@ fn called(r: Answer) -> Answered
     }
 }
 
-// The answer to S is that of a walk.
+// The answer to S is that to the start of a walk, with its first row.
 fn show(area: &[u8]) -> Answered
     ensures { λ a. ⌜ a ≡ showAnswer (now (area .entry)) ⌝ }
 {

@@ -7,7 +7,7 @@ use native.Mathlib.Omega.{arith}
 use lib.Dec.{T, eqb, eqb→eq}
 use lib.ListN.{length, getD, take, drop, replicate, length-append, length-replicate, length-take, length-drop, take-append-drop}
 use lib.Seq.{take-at, drop-at, drop-append-add, take-append-add, take-add, drop-drop, length-take-le}
-use Rattle.roles.proofs.Member.{T-and}
+use Rattle.roles.proofs.Tests.{T-and}
 use Rattle.words.specs.Words.{allZero}
 use Rattle.area.specs.State.{Entry, pad, each, entryAt, entriesFrom}
 use Rattle.area.proofs.RowLaws.{none}

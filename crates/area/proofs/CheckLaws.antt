@@ -14,7 +14,7 @@ use Rattle.words.specs.Words.{words, Spans, allZero}
 use Rattle.words.proofs.Laws.{length-words}
 use Rattle.words.proofs.Runs.{drop-run, allZero-split}
 use Rattle.roles.specs.Sets.{allBelow, mostRoles}
-use Rattle.roles.proofs.Member.{T-and, T-ext}
+use Rattle.roles.proofs.Tests.{T-and, T-ext}
 use Rattle.meaning.specs.Rows.{mostOpens}
 use Rattle.meaning.specs.Events.{lastPermission}
 use Rattle.opens.specs.Opens.{placesGood}

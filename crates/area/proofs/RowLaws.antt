@@ -10,7 +10,7 @@ use native.Mathlib.Omega.{arith}
 use borrow.Author.Tests.{eq-eqb, ne-eqb, lt-ltb, le-ltb}
 use lib.Dec.{T, eqb, eqb→eq}
 use lib.ListN.{length, getD, set, length-append, length-take, length-drop, length-set}
-use Rattle.roles.proofs.Member.{T-and, T-false}
+use Rattle.roles.proofs.Tests.{T-and, T-false}
 use Rattle.meaning.specs.Rows.{Row, blank, Good, mostOpens}
 use Rattle.meaning.proofs.Kept.{blank-good}
 use Rattle.meaning.specs.Events.{lastPermission}

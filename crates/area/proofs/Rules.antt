@@ -10,7 +10,7 @@ use lib.Dec.{T, eqb, ltb→lt, lt→ltb, leb→le, le→leb}
 use lib.ListN.{length, getD, drop}
 use Rattle.words.specs.Words.{allZero}
 use Rattle.roles.specs.Sets.{allBelow, mostRoles}
-use Rattle.roles.proofs.Member.{T-and}
+use Rattle.roles.proofs.Tests.{T-and}
 use Rattle.roles.proofs.Laws.{leb-allBelow}
 use Rattle.meaning.specs.Rows.{mostOpens}
 use Rattle.meaning.specs.Events.{lastPermission}

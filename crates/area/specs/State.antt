@@ -7,7 +7,7 @@
 --     areaOf s             the bytes of a state: contents first, then bodies, zeros behind them
 --     stateOf l            the state that the bytes hold
 --     wordsOf, heldBy      the same two between a state and words
---     entryAt, entriesFrom the row of number i; so many rows from it on
+--     entryAt, entriesFrom    the row of number i; so many rows from it on
 --     rowFor p es          the row of a permission, blank where it has none
 --     put p w es           the rows with w as the row of p: a blank row is no row (`one`), and p's old one goes (`past`)
 --     withRow s p w        the state with w as the row of p

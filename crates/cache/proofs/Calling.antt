@@ -3,13 +3,12 @@ use mathlib.Core.Path.{_≡_, refl, sym, ap, ap₂, _∙_, subst⁻¹}
 use mathlib.Core.Bool.{Bool, true, false, not, _&&_, _||_}
 use mathlib.Core.List.{List, []}
 use Prim.Native.Nat.{ℕ, _≤_}
-use native.Mathlib.Decide.{decLt}
 use native.Mathlib.Omega.{arith}
 use lib.Dec.{T, eqb, ltb, leb}
 use lib.ListN.{length}
-use borrow.Author.Tests.{eq-eqb, ne-eqb, le-leb, lt-leb, lt-ltb, le-ltb}
+use borrow.Author.Tests.{eq-eqb, ne-eqb}
 use Rattle.roles.specs.Sets.{allBelow, partOf, mostRoles}
-use Rattle.roles.proofs.Member.{T-true}
+use Rattle.roles.proofs.Tests.{T-true, leb-not}
 use Rattle.meaning.specs.Rows as meaning
 use Rattle.meaning.specs.Rows.{decide, mostOpens}
 use Rattle.meaning.specs.Events.{lastPermission}
@@ -71,12 +70,6 @@ module _ (l : List ℕ) (p s : ℕ) where
   decide-go h v k = sym (ap (λ (o : Out). o .answer) (decide-decides l p s h v k))
 
 -- ---- opening
-
-leb-not : (a b : ℕ) → leb a b ≡ not (ltb b a)
-leb-not a b = elim (decLt b a) [
-  | yes h ↦ lt-leb a b h ∙ sym (ap not (lt-ltb b a h))
-  | no h ↦ le-leb a b (omega arith) ∙ sym (ap not (le-ltb b a (omega arith)))
-]
 
 neither : (x y : Bool) → (not x && not y) ≡ not (x || y)
 neither true y = refl

@@ -7,7 +7,7 @@ use Rattle.meaning.specs.declared.Happening.{Happening}
 use Rattle.meaning.specs.declared.Happening.the-variants.{Allow, Deny, Given, Withdrawn}
 use Rattle.meaning.specs.Events.{known}
 use Rattle.meaning.specs.Rows.{Row, blank, fits, contradicts, step, Settled, unchanged, forgotten, overflow, settle}
-use Rattle.meaning.proofs.Verdicts.{unlike}
+use Rattle.roles.proofs.Tests.{unlike}
 use Rattle.area.specs.State.{State, withRow}
 use Rattle.calls.specs.declared.Answer.{Answer}
 use Rattle.calls.specs.Calls.{Out, stays, holds, isReply, eventOn}

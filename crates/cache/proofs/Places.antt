@@ -7,7 +7,7 @@ use native.Mathlib.Omega.{arith}
 use lib.Dec.{T, ltb, eqb, ltb→lt, eqb→eq}
 use lib.ListN.{length}
 use borrow.Author.Tests.{lt-ltb, eq-eqb}
-use Rattle.roles.proofs.Member.{T-and}
+use Rattle.roles.proofs.Tests.{T-and}
 use Rattle.words.specs.Words.{words, bytesOf}
 use Rattle.words.proofs.Laws.{Bytes, bytesOf-words}
 use Rattle.area.specs.Layout.{areaBytes}

@@ -5,7 +5,8 @@ use mathlib.Core.List.{List}
 use Prim.Native.Nat.{ℕ}
 use lib.Dec.{T, leb}
 use Rattle.roles.specs.Sets.{single, allBelow, joined, setOf, partOf}
-use Rattle.roles.proofs.Member.{T-true, in-empty, partOf-law}
+use Rattle.roles.proofs.Tests.{T-true}
+use Rattle.roles.proofs.Member.{in-empty, partOf-law}
 use Rattle.roles.proofs.Laws.{single-below, partOf-allBelow}
 use Rattle.meaning.specs.declared.Happening.{Happening}
 use Rattle.meaning.specs.Events.{rolesIn, known}

@@ -9,7 +9,7 @@ use lib.Dec.{T, eqb, ltb, leb, leb→le, ltb→lt}
 use lib.ListN.{length}
 use Rattle.roles.specs.Sets.{allBelow, partOf, mostRoles}
 use Rattle.roles.specs.declared.RoleSet.{RoleSet}
-use Rattle.roles.proofs.Member.{T-and, T-or}
+use Rattle.roles.proofs.Tests.{T-and, T-or}
 use Rattle.meaning.specs.declared.Happening.{Happening}
 use Rattle.meaning.specs.declared.Happening.the-variants.{Allow, Deny, Given, Withdrawn}
 use Rattle.meaning.specs.Events.{known, lastPermission}

@@ -18,7 +18,7 @@ use Rattle.area.proofs.Bytes.{area-good, area-state}
 use Rattle.calls.specs.Calls.{Out, valid, replied, replyOf, decideOf}
 use Rattle.calls.specs.Histories.{Call, reply, update, ask, forget, outOf, lengthened, trailAfter, History, next, history}
 use Rattle.calls.specs.Demands as demands
-use Rattle.roles.proofs.Member.{T-true}
+use Rattle.roles.proofs.Tests.{T-true}
 use Rattle.calls.proofs.CallLaws.{decide-no-permission, decide-unknown}
 use Rattle.calls.proofs.Outcomes.{decide-on}
 use Rattle.calls.proofs.Invariant.{Holds, next-holds, history-holds}

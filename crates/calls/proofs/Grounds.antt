@@ -7,12 +7,11 @@ use Prim.Native.Nat.{ℕ}
 use lib.Dec.{T, eqb, leb}
 use lib.ListN.{length}
 use Rattle.roles.specs.Sets.{allBelow, partOf, mostRoles}
-use Rattle.roles.proofs.Member.{T-and}
+use Rattle.roles.proofs.Tests.{T-and, unlike}
 use Rattle.meaning.specs.declared.Happening.{Happening}
 use Rattle.meaning.specs.declared.Happening.the-variants.{Allow, Deny, Given, Withdrawn}
 use Rattle.meaning.specs.Events.{known, Verdict}
 use Rattle.meaning.specs.Rows.{Row, blank, hasPart, contradicts, step, decide}
-use Rattle.meaning.proofs.Verdicts.{unlike}
 use Rattle.area.specs.Layout.{areaBytes, goodBytes}
 use Rattle.area.specs.State.{State, rowFor, withRow, stateOf}
 use Rattle.calls.specs.Calls.{Out, stays, holds, valid, isReply, fitsIn, eventOn, replied, updated, onArea, openOf, replyOf, updateOf, decideOf, forgetOf}

@@ -9,12 +9,11 @@ use native.Mathlib.Omega.{arith}
 use borrow.Author.Tests.{eq-eqb, ne-eqb}
 use lib.Dec.{T, eqb, leb, leb→le}
 use lib.ListN.{length}
-use Rattle.roles.proofs.Member.{T-and}
+use Rattle.roles.proofs.Tests.{T-and, unlike}
 use Rattle.roles.specs.Sets.{mostRoles}
 use Rattle.meaning.specs.declared.Happening.{Happening}
 use Rattle.meaning.specs.Events.{known}
 use Rattle.meaning.specs.Rows.{Row, blank, step, settle, rowAfter, Recorded}
-use Rattle.meaning.proofs.Verdicts.{unlike}
 use Rattle.area.specs.Layout.{areaBytes}
 use Rattle.area.specs.State.{State, GoodState, rowFor, put, withRow, areaOf}
 use Rattle.area.proofs.RowLaws.{rowFor-put-same, rowFor-put-other}

@@ -7,7 +7,7 @@ use Prim.Native.Nat.{ℕ}
 use native.Mathlib.Omega.{arith}
 use lib.Dec.{T, leb}
 use Rattle.roles.specs.Sets.{allBelow, partOf}
-use Rattle.roles.proofs.Member.{T?, T-true, T-false}
+use Rattle.roles.proofs.Tests.{T?, T-true, T-false}
 use Rattle.meaning.specs.declared.Happening.{Happening}
 use Rattle.meaning.specs.Events.{known}
 use Rattle.meaning.specs.Rows.{Row, blank, Good, fits, contradicts, step, settle, decide}

@@ -1,5 +1,6 @@
 -- The calls: what each answers, and the bytes of the lent area after it, as document 01's table reads.
---     Out                   an answer with the bytes afterwards: the area stays, or holds a state
+--     Out                   an answer with the bytes afterwards
+--     stays a l, holds a s  the answer a, and the bytes l, or those of the state s
 --     valid, isReply        a permission is 1 to 4,294,967,295; the event is a reply
 --     fitsIn s p w          w fits as the row of p: at most 15 open sets, and where it would be a new row, fewer than 128 are used
 --     eventOn, eventOf      an event on a good area: 4, 6, 7 or 8, 0

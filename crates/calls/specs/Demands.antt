@@ -1,13 +1,14 @@
 -- The three demands, as statements about the calls' definitions; `proofs/Demands.antt` proves them.
---     Ground, Exactly        a refusal with its ground; the answer is each number exactly on its ground, in this order
+--     Ground, ground a b     the refusal a with its ground b
+--     Exactly                the answer is each number exactly on its ground, in this order
 --     OnGrounds              the answer exactly on its ground, and every answer but 0 and 8 leaves the bytes as they came
 --     IsRecorded a           a is 0: what is left where no ground holds, as a verdict is for decide
 --     openGrounds, areaGrounds, eventGrounds    the grounds of each call, in document 01's order
 --     Demand1                any numbers and any bytes get an answer of the table, each refusal exactly on its ground
 --     Demand2                over every history decide says what the possible holder sets of the trail force
---     NoOther                events about one permission never change a decision about another
+--     about c, NoOther       the permission of a call; a call about one never changes a decision about another
 --     Demand3                areas reached from opening are equal exactly when they know the same
---     Reordered              so are those of reordered streams
+--     Reordered              areas of rearranged streams, every event answered 0 in both, are equal
 --     Contradicted           over every history 6 exactly when no possible holder set agrees
 --     OneOutcome             any two outcomes that a call's contract allows are equal
 --     Readings               the readings of document 01 marked P, all of them
@@ -31,7 +32,7 @@ use Rattle.calls.specs.declared.Answer.{Answer}
 use Rattle.calls.specs.Answers.{Gives}
 use Rattle.calls.specs.Histories.{Call, reply, update, ask, forget, calls, next, history, Rearranged, AllRecorded}
 
--- ---- demand 1
+-- ---- demand 1: any numbers and any lent bytes get a numbered answer, and answers 1 to 7 leave the lent area as it came
 
 pub record Ground : Type 0 where
   pub number : ℕ
@@ -78,7 +79,8 @@ pub record Demand1 : Type 0 where
   pub decide-unchanged : (l : List ℕ) (p s : ℕ) → decideOf l p s .area ≡ l
   pub forget-answers : (l : List ℕ) (p : ℕ) → OnGrounds l (forgetOf l p) (areaGrounds l p []) IsRecorded
 
--- ---- demand 2
+-- ---- demand 2: allow exactly when every possible holder set shares a role with the session, deny exactly when none does,
+-- undecided otherwise
 
 abbrev pub Demand2 : Type 0
 Demand2 = (l : List ℕ) (n : ℕ) (cs : List Call) → openOf l n .answer ≡ 0 → (p s : ℕ) → T (valid p) → Below n s
@@ -99,7 +101,8 @@ abbrev pub Contradicted : Type 0
 Contradicted = (l : List ℕ) (n : ℕ) (cs : List Call) → openOf l n .answer ≡ 0 → (p v s : ℕ) → T (valid p) → T (leb v 1) → T (known n (replied v s))
     → (replyOf (history l n cs .area) p v s .answer ≡ 6) ↔ ((h : ℕ) → Possible n (history l n cs .trail p) h → ¬ (T (agrees (replied v s) h)))
 
--- ---- demand 3
+-- ---- demand 3: areas reached from opening are equal byte for byte exactly when they have the same role count and the same
+-- possible holder sets for each permission
 
 abbrev pub Demand3 : Type 0
 Demand3 = (l m : List ℕ) (n k : ℕ) (cs ds : List Call) → openOf l n .answer ≡ 0 → openOf m k .answer ≡ 0

@@ -1,7 +1,7 @@
 -- Calls one after another from an opening, and the trail of each permission: its events answered 0, in order.
 --     Call, outOf            a call on an area that was opened, with any numbers; what it gives
 --     trailAfter q c a t     the trail t of the permission q after the call c was answered a; an event lengthens it (`lengthened`)
---     History, history       the bytes of the area now, and the trail of each permission, after any calls from an opening
+--     History, opened, history    the bytes of the area now, and the trail of each permission, after any calls from an opening
 --     next c h, afterAll     the history h after the call c; after calls one after another
 --     callFor, callOf        the call by which an event comes in
 --     calls                  those of a stream of events

@@ -6,9 +6,12 @@ use lines::Run;
 use lines::advance;
 use lines::start;
 ghost use mathlib.Core.Path.{_≡_};
+ghost use mathlib.Core.Bool.{_&&_};
 ghost use Prim.Native.Nat.{_≤_};
+ghost use lib.Dec.{leb};
 ghost use lib.ListN.{length};
-ghost use Rattle.gateway.specs.Turns.{Within, idle, Closed, Read, Answered, Turned};
+ghost use Rattle.area.specs.Layout.{mostRows};
+ghost use Rattle.gateway.specs.Turns.{Within, Closed, Read, PieceAnswered, Turned};
 
 const INPUT: i32 = 0;
 
@@ -26,7 +29,7 @@ pub struct Flow {
 
 // Whether all that came in is read, and all that is to be shown is shown.
 fn is_idle(flow: Flow) -> bool
-    ensures { λ b. ⌜ b ≡ idle flow ⌝ }
+    ensures { λ b. ⌜ b ≡ (leb mostRows (flow .run .row) && leb (flow .to) (flow .from)) ⌝ }
 {
     let run = flow.run;
     (MOST_ROWS <= run.row) & (flow.to <= flow.from)
@@ -93,7 +96,7 @@ fn read_piece(flow: Flow, piece: &mut [u8]) -> Flow
 // What is left of the piece answered, as far as the buffer has room, and the buffer written. Without a reader it ends.
 fn answer_piece(flow: Flow, area: &mut [u8], piece: &[u8], out: &mut [u8]) -> Flow
     requires { ⌜ Within flow (now piece) ⌝ }
-    ensures { λ r. ⌜ Answered flow (now (area .entry)) (now (piece .entry)) (now (out .entry)) r (now (area .exit)) (now (out .exit)) ⌝ }
+    ensures { λ r. ⌜ PieceAnswered flow (now (area .entry)) (now (piece .entry)) (now (out .entry)) r (now (area .exit)) (now (out .exit)) ⌝ }
 {
     let run = flow.run;
     let from = flow.from;

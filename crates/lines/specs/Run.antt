@@ -1,17 +1,17 @@
 -- The line program in the middle of its input, and one turn of it.
---     Place               what it has come to: the line so far and its number, the next row to be shown, the area, the bytes that it
---                         has not read yet
---     placeOf             the place that the code has come to
---     showing             there may be rows to be shown
---     rowThere, atRow     there is a row of that number; the place with another row
---     rowShown, shownText the next row shown, and its text
---     lineEnds, asked     the line ends in the input; the request that it says then
---     answered, kept      a request answered; the line kept where it does not end yet
---     lineRead, lineText  the one or the other, and what is written
---     turned, turnText    one turn: where it comes to, and what it writes
---     goesOn room m       a turn is taken while there is something to do, and room for what it writes
---     Advances room m k t turns are taken from m on as long as it goes on: they come to k and write t
---     runAt, rowToShow    a run at another row; the row to go on with, where a bad area has none
+--     Place                what it has come to: the line so far and its number, the next row to be shown, the area, the bytes that it
+--                          has not read yet
+--     placeOf              the place that the code has come to
+--     showing              there may be rows to be shown
+--     rowThere, atRow      there is a row of that number; the place with another row
+--     rowShown, shownText  the next row shown, and its text
+--     lineEnds, asked      the line ends in the input; the request that it says then
+--     answered, kept       a request answered; the line kept where it does not end yet
+--     lineRead, lineText   the one or the other, and what is written
+--     turned, turnText     one turn: where it comes to, and what it writes
+--     goesOn room m        a turn is taken while there is something to do, and room for what it writes
+--     Advances room m k t  turns are taken from m on as long as it goes on: they come to k and write t
+--     runAt, rowToShow     a run at another row; the row to go on with, where a bad area has none
 --     placed, Ready, Comes, Shown, Advanced    what the functions of the code ask and promise
 use mathlib.Core.Path.{_≡_}
 use mathlib.Core.Bool.{Bool, true, false, cond, _&&_, _||_}

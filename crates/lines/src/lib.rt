@@ -132,8 +132,8 @@ fn goes_on(p: Progress, bytes: usize, room: usize) -> bool
     (MOST_TEXT <= room - p.written) & ((run.row < MOST_ROWS) | (p.read < bytes))
 }
 
-// A bad area has no rows to be shown.
-fn rows_to_show(run: Run, area: &[u8]) -> Run
+// The run at the row to go on with: of a bad area none.
+fn at_row_to_show(run: Run, area: &[u8]) -> Run
     ensures { λ r. ⌜ r ≡ runAt run (rowToShow (now (area .entry)) (run .row)) ⌝ }
 {
     let line = run.line;
@@ -162,7 +162,7 @@ pub fn advance(run: Run, area: &mut [u8], piece: &[u8], out: &mut [u8]) -> Progr
         };
     }
     let mut p = Progress {
-        run: rows_to_show(run, area),
+        run: at_row_to_show(run, area),
         read: 0,
         written: 0,
     };

@@ -7,10 +7,11 @@ use native.Mathlib.Omega.{arith}
 use lib.Dec.{T, T-not, leb→le, le→leb, nleb→lt}
 use lib.Arith.{lt→nleb}
 use lib.ListN.{length}
+use Rattle.roles.proofs.Tests.{unlike}
 use Rattle.meaning.specs.Events.{known, Reply}
 use Rattle.meaning.specs.Rows.{Row, blank, Good, mostOpens, fits, contradicts, step, Settled, unchanged, forgotten, overflow, settle, Settles}
 use Rattle.meaning.proofs.Kept.{blank-good, step-good}
-use Rattle.meaning.proofs.Verdicts.{unlike, contradicts-law}
+use Rattle.meaning.proofs.Verdicts.{contradicts-law}
 use Rattle.meaning.specs.declared.Happening.{Happening}
 use Rattle.meaning.specs.declared.Happening.the-variants.{Allow, Deny, Given, Withdrawn}
 

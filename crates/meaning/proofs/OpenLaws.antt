@@ -2,14 +2,14 @@
 use mathlib.Core.Path.{_≡_, refl, sym, ap, _∙_, subst, subst⁻¹}
 use mathlib.Core.Bool.{not, _&&_}
 use mathlib.Core.List.{List, [], _∷_, _++_}
-use mathlib.Core.Logic.{_↔_, _≢_, _⊎_, inl, inr, ⊎-elim, Iff·trans, Iff·symm}
+use mathlib.Core.Logic.{_↔_, _≢_, inl, inr, ⊎-elim, Iff·trans, Iff·symm}
 use Prim.Native.Nat.{ℕ, zero, suc, _<_, _≤_}
 use native.Mathlib.Decide.{ℕ-discrete}
 use native.Mathlib.Omega.{arith}
 use lib.Dec.{T, T-not, not-T, eqb, eqb→eq, eqb-refl}
 use lib.ListN.{length, length-map}
 use Rattle.roles.specs.Sets.{without, shares, partOf}
-use Rattle.roles.proofs.Member.{T?, T-and}
+use Rattle.roles.proofs.Tests.{T?, T-and}
 use Rattle.roles.proofs.Laws.{partOf-refl, partOf-trans, partOf-antisym, partOf-le, shares-partOf, shares-without}
 use Rattle.meaning.specs.Lists.{Mem, Ascending, keep, inOrder}
 use Rattle.meaning.specs.Rows.{hasPart, hasProperPart, losing, apart, reduce}

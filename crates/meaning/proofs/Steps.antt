@@ -7,7 +7,8 @@ use native.Mathlib.Omega.{arith}
 use lib.Dec.{T, T-not, not-T}
 use lib.Pow.{pow-mono}
 use Rattle.roles.specs.Sets.{In, single, Below, joined, without, shares}
-use Rattle.roles.proofs.Member.{T?, in?, in-single, in-joined, in-without, set-ext, shares-law}
+use Rattle.roles.proofs.Tests.{T?}
+use Rattle.roles.proofs.Member.{in?, in-single, in-joined, in-without, set-ext, shares-law}
 use Rattle.roles.proofs.Laws.{in-own-single, single-below, below-single, partOf-allBelow, shares-at, shares-single, shares-joined, shares-without, joined-below, without-below, without-apart}
 use Rattle.meaning.specs.Events.{rolesIn, known, agrees, after, Effect}
 use Rattle.meaning.specs.Lists.{Mem}

@@ -7,7 +7,7 @@ use Prim.Native.Nat.{ℕ}
 use native.Mathlib.Omega.{arith}
 use lib.Dec.{T}
 use lib.ListN.{length}
-use Rattle.roles.specs.Sets.{single}
+use Rattle.roles.specs.Sets.{single, Below}
 use Rattle.meaning.specs.Events.{known, agrees, Effect, Reached, HolderSet, Possible, Decides, Reply}
 use Rattle.meaning.specs.Lists.{Mem, Ascending, put}
 use Rattle.meaning.specs.Rows.{Row, blank, Leaves, Good, mostOpens, fits, hasProperPart, apart, reduce, giving, contradicts, step, settle, Settles, rowAfter, Recorded, decide}
@@ -80,7 +80,7 @@ trail-contradicts n es r e k =
     )
 
 -- demand 2 for one permission: 10, 11 and 12 exactly on their grounds
-pub row-decides : (n : ℕ) (es : List Happening) → Recorded n blank es → (s : ℕ) → HolderSet n s → Decides (Possible n es) s (decide (rowAfter blank es) s)
+pub row-decides : (n : ℕ) (es : List Happening) → Recorded n blank es → (s : ℕ) → Below n s → Decides (Possible n es) s (decide (rowAfter blank es) s)
 row-decides n es r s b =
     verdicts.decides-same (Leaves n (rowAfter blank es)) (Possible n es) s (decide (rowAfter blank es) s) (row-leaves n es r)
     (verdicts.decide-law n (rowAfter blank es) (after-good n blank es (kept.blank-good n) r) s b)

@@ -1,13 +1,14 @@
 -- Contradictions and verdicts, by the holder sets that a good row leaves possible. Assumes nothing.
-use mathlib.Core.Path.{_≡_, refl, sym, _∙_, subst}
+use mathlib.Core.Path.{_≡_, refl, sym, _∙_}
 use mathlib.Core.Bool.{Bool, true, false, not, cond}
 use mathlib.Core.Logic.{_↔_, inl, inr, ⊎-elim, Iff·trans}
 use Prim.Native.Nat.{ℕ, _<_}
-use lib.Dec.{T, T-not, eqb, eqb-refl}
-use Rattle.roles.specs.Sets.{In, allBelow, without, shares, partOf}
-use Rattle.roles.proofs.Member.{T?, in?, in-allBelow, in-without, shares-law, partOf-law, outside-law, below-law, some-in}
+use lib.Dec.{T, T-not}
+use Rattle.roles.specs.Sets.{In, allBelow, without, shares, partOf, Below}
+use Rattle.roles.proofs.Tests.{T?, unlike}
+use Rattle.roles.proofs.Member.{in?, in-allBelow, in-without, shares-law, partOf-law, outside-law, below-law, some-in}
 use Rattle.roles.proofs.Laws.{shares-at, shares-partOf, allBelow-below, without-below, without-apart}
-use Rattle.meaning.specs.Events.{rolesIn, known, agrees, HolderSet, NoneShares, AllShare, OneShares, OneShares-not, Decides}
+use Rattle.meaning.specs.Events.{rolesIn, known, agrees, NoneShares, AllShare, OneShares, OneShares-not, Decides}
 use Rattle.meaning.specs.Lists.{Mem}
 use Rattle.meaning.specs.Rows.{Row, Leaves, Good, hasPart, contradicts, decide}
 use Rattle.meaning.proofs.OpenLaws.{hasPart-law, noPart-law}
@@ -47,7 +48,7 @@ module _ (n : ℕ) (w : Row) (g : Good n w) where
       }
 
   -- s is part of the denied set exactly when no possible holder set shares a role with s
-  pub denied-law : (s : ℕ) → HolderSet n s → T (partOf s (w .denied)) ↔ NoneShares (Leaves n w) s
+  pub denied-law : (s : ℕ) → Below n s → T (partOf s (w .denied)) ↔ NoneShares (Leaves n w) s
   denied-law s b = (
     (λ k h m t. m .denies (shares-partOf h s (w .denied) k t)),
     λ f. partOf-law s (w .denied) .1 (λ r i. ⊎-elim (λ d. d)
@@ -78,9 +79,6 @@ contradicts-law n w (Withdrawn r) g k = ((λ t. absurd t), (λ f. f (largest n w
 
 -- ---- the answer
 
-pub unlike : {a b : ℕ} {A : Type 0} → T (not (eqb a b)) → a ≡ b → A
-unlike {a} {b} t e = absurd (T-not (eqb a b) t (subst (λ (z : ℕ). T (eqb a z)) e (eqb-refl a)))
-
 -- two grounds that exclude each other, the first of which is asked first
 ladder : (P : ℕ → Type 0) (s : ℕ) (a b : Bool) → T a ↔ NoneShares P s → T b ↔ AllShare P s → (NoneShares P s → ¬ (AllShare P s))
     → (T (not a) → OneShares P s) → (T (not b) → OneShares-not P s) → Decides P s (cond a 10 (cond b 11 12))
@@ -104,7 +102,7 @@ ladder P s false false d a x y z = record {
 }
 
 -- a good row answers a session as the holder sets that it leaves possible force
-pub decide-law : (n : ℕ) (w : Row) → Good n w → (s : ℕ) → HolderSet n s → Decides (Leaves n w) s (decide w s)
+pub decide-law : (n : ℕ) (w : Row) → Good n w → (s : ℕ) → Below n s → Decides (Leaves n w) s (decide w s)
 unfolding decide
 decide-law n w g s b =
     let top = largest n w in

@@ -7,7 +7,7 @@ use Prim.Native.Nat.{ℕ, _^_, _<_}
 use native.Mathlib.Omega.{arith}
 use lib.Dec.{T, T-not, not-T, eqb, eqb→eq, ltb→lt, lt→ltb}
 use Rattle.roles.specs.Sets.{allBelow, shares, partOf}
-use Rattle.roles.proofs.Member.{T-and}
+use Rattle.roles.proofs.Tests.{T-and}
 use Rattle.roles.proofs.Laws.{partOf-le, leb-allBelow}
 use Rattle.meaning.specs.Lists.{Mem, Ascending}
 use Rattle.meaning.specs.Rows.{Good}

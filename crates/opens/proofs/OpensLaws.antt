@@ -13,7 +13,8 @@ use lib.Seq.{take-take}
 use Rattle.words.specs.Words.{allZero}
 use Rattle.words.proofs.Runs.{drop-run}
 use Rattle.roles.specs.Sets.{In, shares, partOf, joined}
-use Rattle.roles.proofs.Member.{T-and, T-ext, in-empty, in-joined, partOf-law, set-ext, T-true}
+use Rattle.roles.proofs.Tests.{T-and, T-ext, T-true}
+use Rattle.roles.proofs.Member.{in-empty, in-joined, partOf-law, set-ext}
 use Rattle.roles.proofs.Laws.{partOf-refl, partOf-trans, shares-sym, shares-empty, shares-joined}
 use Rattle.meaning.specs.Lists.{Mem, any}
 use Rattle.meaning.specs.Rows.{hasPart, mostOpens}

@@ -12,7 +12,8 @@ use lib.ListN.{length, getD, take, drop, drop-of-length-le, length-drop}
 use lib.Seq.{drop-drop, getD-drop}
 use Rattle.words.proofs.Runs.{run-take, drop-run}
 use Rattle.roles.specs.Sets.{partOf, joined}
-use Rattle.roles.proofs.Member.{T-ext, T-or, T-true, in-joined, partOf-law}
+use Rattle.roles.proofs.Tests.{T-ext, T-or, T-true}
+use Rattle.roles.proofs.Member.{in-joined, partOf-law}
 use Rattle.roles.proofs.Laws.{partOf-refl}
 use Rattle.meaning.specs.Lists.{any}
 use Rattle.meaning.specs.Rows.{hasPart}

@@ -11,10 +11,10 @@
 --     requestOf s              the request that a line's bytes say
 use mathlib.Core.Bool.{cond}
 use mathlib.Core.List.{List, [], _∷_, _++_}
-use Prim.Native.Nat.{ℕ, _^_, _≤_, _<_}
+use Prim.Native.Nat.{ℕ, _≤_}
 use lib.Dec.{eqb}
 use Rattle.roles.specs.declared.RoleSet.{RoleSet}
-use Rattle.roles.specs.Sets.{lastRole, mostRoles}
+use Rattle.roles.specs.Sets.{lastRole, mostRoles, Below}
 use Rattle.meaning.specs.declared.Happening.{Happening}
 use Rattle.meaning.specs.declared.Happening.the-variants.{Allow, Deny, Given, Withdrawn}
 use Rattle.meaning.specs.Events.{lastPermission}
@@ -73,15 +73,15 @@ requestText Show = letterS ∷ []
 requestText Unreadable = []
 
 abbrev pub HappeningInRange : Happening → Type 0
-HappeningInRange (Allow s) = s .bits < 2 ^ mostRoles
-HappeningInRange (Deny s) = s .bits < 2 ^ mostRoles
+HappeningInRange (Allow s) = Below mostRoles (s .bits)
+HappeningInRange (Deny s) = Below mostRoles (s .bits)
 HappeningInRange (Given r) = r ≤ lastRole
 HappeningInRange (Withdrawn r) = r ≤ lastRole
 
 abbrev pub InRange : Request → Type 0
 InRange (Open n) = n ≤ lastCount
 InRange (Told e) = (e .permission ≤ lastPermission) × HappeningInRange (e .happening)
-InRange (Decide p s) = (p ≤ lastPermission) × (s .bits < 2 ^ mostRoles)
+InRange (Decide p s) = (p ≤ lastPermission) × Below mostRoles (s .bits)
 InRange (Forget p) = p ≤ lastPermission
 InRange Show = Unit {0}
 InRange Unreadable = ⊥

@@ -15,7 +15,7 @@ ghost use Rattle.text.specs.Field.{numberField, setField};
 ghost use Rattle.requests.specs.Fields.{fieldOf, lastNumber, permissionSet, permissionRole};
 ghost use Rattle.requests.specs.Request.{letterO, letterA, letterD, letterG, letterR, letterQ, letterF, letterS, byLetter, requestOf};
 
-// A line has no more bytes before its LF.
+// A line has at most so many bytes before its LF.
 pub const MOST_BYTES: usize = 200;
 
 // The largest role count that a line can say.

@@ -9,7 +9,8 @@ use lib.Bits.{and-le-r}
 use lib.Dec.{T, ltb, leb, leb→le, le→leb, ltb→lt, lt→ltb}
 use lib.Pow.{pow-lt, pow-mono, ones-lt}
 use Rattle.roles.specs.Sets.{mostRoles, has, In, single, allBelow, below64, joined, common, without, shares, partOf}
-use Rattle.roles.proofs.Member.{T-ext, in-empty, in-single, in-allBelow, in-joined, in-common, in-without, set-ext, shares-law, partOf-law, below-law, in-below64}
+use Rattle.roles.proofs.Tests.{T-ext}
+use Rattle.roles.proofs.Member.{in-empty, in-single, in-allBelow, in-joined, in-common, in-without, set-ext, shares-law, partOf-law, below-law, in-below64}
 
 -- ---- empty
 

@@ -1,4 +1,6 @@
--- The laws of role sets: `Member` has what each operation says of one role, `Laws` what follows of sets.
+-- The laws of role sets: `Member` has what each operation says of one role, `Laws` what follows of sets; `Tests`, beside
+-- them, what tests say.
+pub mod Tests
 mod Digits
 mod Shift
 pub mod Member

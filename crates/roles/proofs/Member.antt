@@ -1,6 +1,6 @@
 -- What each set and each operation says of one role, and what that says of whole sets. Assumes nothing.
 use mathlib.Core.Path.{_≡_, refl, _∙_, subst, subst⁻¹}
-use mathlib.Core.Bool.{Bool, true, false, not, _&&_, _||_}
+use mathlib.Core.Bool.{not, _&&_}
 use mathlib.Core.List.{List, _∷_}
 use mathlib.Core.Logic.{_↔_, _⊎_, inl, inr, ⊎-elim, _≢_, by-cases}
 use Prim.Native.Nat.{ℕ, zero, suc, _%_, _^_, _<_}
@@ -12,34 +12,8 @@ use lib.Bits.{and-mask}
 use lib.Pow.{pow-pos, pow-mono}
 use lib.Dec.{T, T-not, not-T, eqb, eqb→eq, eqb-refl, ltb→lt, lt→ltb, eqb·suc-zero}
 use Rattle.roles.specs.Sets.{mostRoles, has, In, single, allBelow, below64, joined, common, without, setOf, shares, partOf}
+use Rattle.roles.proofs.Tests.{T?, T-or, T-and, T-ext}
 use Rattle.roles.proofs.Digits.{two-pos, has-joined, has-common, has-without, has-zero, has-suc, has-empty, has-single, has-allBelow, has-ext}
-
--- ---- tests and facts
-
--- a test passes or fails
-pub T? : (b : Bool) → T b ⊎ T (not b)
-T? true = inl tt
-T? false = inr tt
-
-pub T-or : (a b : Bool) → T (a || b) ↔ (T a ⊎ T b)
-T-or true b = ((λ h. inl tt), (λ h. tt))
-T-or false b = ((λ h. inr h), ⊎-elim (λ h. absurd h) (λ h. h))
-
-pub T-and : (a b : Bool) → T (a && b) ↔ (T a × T b)
-T-and true b = ((λ h. (tt, h)), (λ h. h .1))
-T-and false b = ((λ h. absurd h), (λ h. h .0))
-
-pub T-ext : (a b : Bool) → T a ↔ T b → a ≡ b
-T-ext true true e = refl
-T-ext true false e = absurd (e .0 tt)
-T-ext false true e = absurd (e .1 tt)
-T-ext false false e = refl
-
-pub T-true : (b : Bool) → T b → b ≡ true
-T-true b h = T-ext b true ((λ t. tt), (λ t. h))
-
-pub T-false : (b : Bool) → T (not b) → b ≡ false
-T-false b h = T-ext b false (T-not b h, (λ t. absurd t))
 
 -- ---- one role
 

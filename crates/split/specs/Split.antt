@@ -73,6 +73,6 @@ unfoldable pub beforeLf : List ℕ → ℕ
 beforeLf [] = 0
 beforeLf (b ∷ bs) = cond (eqb b lf) 0 (suc (beforeLf bs))
 
--- more than `mostBytes` say that the line is too long
+-- a length above `mostBytes` says that the line is too long
 abbrev pub heldIn : Splitter → Held
 heldIn s = cond (leb (s .len) mostBytes) (short (take (s .len) (s .bytes))) long

@@ -2,14 +2,15 @@
 use mathlib.Core.Path.{_≡_, refl, sym, ap, _∙_, subst}
 use mathlib.Core.Bool.{Bool, true, false, cond}
 use mathlib.Core.List.{List, [], _∷_}
-use mathlib.Core.Logic.{_↔_, _≢_, _⊎_, inl, inr, ⊎-elim, by-cases}
+use mathlib.Core.Logic.{_↔_, _≢_, inl, inr, ⊎-elim, by-cases}
 use Prim.Native.Nat.{ℕ, zero, suc, _+_, _^_, _≤_, _<_}
 use native.Mathlib.Decide.{decLt}
 use native.Mathlib.Omega.{arith}
 use lib.Bits.{or-zero-r}
 use lib.Dec.{T}
 use Rattle.roles.specs.Sets.{mostRoles, lastRole, has, In, single, joined, setOf}
-use Rattle.roles.proofs.Member.{T-ext, in-empty, in-setOf, set-ext, below-law}
+use Rattle.roles.proofs.Tests.{T-ext}
+use Rattle.roles.proofs.Member.{in-empty, in-setOf, set-ext, below-law}
 use Rattle.roles.proofs.Laws.{in⇒nonempty, joined-assoc}
 use Rattle.text.specs.Set.{rolesFrom, rolesOf}
 

@@ -11,7 +11,7 @@ use native.Mathlib.Omega.{arith}
 use lib.Dec.{T}
 use lib.ListN.{length}
 use borrow.Author.Tests.{lt-ltb, le-ltb}
-use Rattle.roles.proofs.Member.{T-true}
+use Rattle.roles.proofs.Tests.{T-true}
 use Rattle.meaning.specs.Events.{lastPermission}
 use Rattle.area.specs.Layout.{mostRows, goodBytes}
 use Rattle.area.specs.State.{stateOf}

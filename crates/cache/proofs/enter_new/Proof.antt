@@ -19,7 +19,7 @@ use Rattle.calls.specs.declared.Answer.the-variants.{Contradiction, Full, Forgo
 use Rattle.calls.specs.Calls.{stays, eventOf}
 use Rattle.calls.specs.Answers.{Gives}
 use Rattle.cache.specs.Fresh.{Fresh}
-use Rattle.roles.proofs.Member.{T-true}
+use Rattle.roles.proofs.Tests.{T-true}
 use Rattle.cache.proofs.Ladder.{gives, Entered, entered}
 use Rattle.cache.proofs.Writes.{event-none, area-kept, fitting-tidy, known-64, answered}
 use Rattle.cache.proofs.enter_new.Statement.{statement}

@@ -15,7 +15,7 @@ use Rattle.table.specs.declared.Found.the-variants.{At}
 use Rattle.calls.specs.declared.Answer.the-variants.{Recorded, Contradiction, Full, Forgotten}
 use Rattle.calls.specs.Calls.{stays, eventOf}
 use Rattle.calls.specs.Answers.{Gives}
-use Rattle.roles.proofs.Member.{T-true}
+use Rattle.roles.proofs.Tests.{T-true}
 use Rattle.calls.proofs.CallLaws.{fitsIn-over, event-recorded}
 use Rattle.cache.proofs.Ladder.{gives, Entered, entered}
 use Rattle.cache.proofs.Writes.{row-inside, row-there, row-says, read-tidy, known-64, answered, settled-row, settled-tidy}

@@ -22,7 +22,7 @@ use Rattle.calls.specs.declared.Answer.the-variants.{Recorded}
 use Rattle.calls.specs.Calls.{Out, stays, isReply, eventOf}
 use Rattle.calls.specs.Answers.{numberOf, Gives}
 use Rattle.cache.specs.Fresh.{Fresh}
-use Rattle.roles.proofs.Member.{T-true, T-false}
+use Rattle.roles.proofs.Tests.{T-true, T-false}
 use Rattle.cache.proofs.Places.{bytes-are}
 use Rattle.calls.proofs.CallLaws.{fitsIn-blank, fitsIn-room, fitsIn-none, event-unfit, event-recorded}
 use Rattle.cache.proofs.Ladder.{gives}

@@ -22,7 +22,7 @@ returns c = let a = c .before .before .before .before .args in no-room (a .run) 
 loop-holds : tie.Need-loop-holds Inv-loop μ-loop
 loop-holds c =
     let a = c .before .before .before .before .before .before .args in
-    (refl, refl, midway-start (a .area .now) (a .piece .now) (a .out .now) _ refl refl (subst⁻¹ (λ (r : Run). Walkable (a .area .now) (r .row)) (c .rows-to-show .ensures) (rowToShow-walkable (a .area .now) (a .run .row))))
+    (refl, refl, midway-start (a .area .now) (a .piece .now) (a .out .now) _ refl refl (subst⁻¹ (λ (r : Run). Walkable (a .area .now) (r .row)) (c .at-row-to-show .ensures) (rowToShow-walkable (a .area .now) (a .run .row))))
 
 goes-on-requires : tie.Need-goes-on-requires Inv-loop μ-loop
 goes-on-requires c κs = c .loop .inv .2 .inside
@@ -70,7 +70,7 @@ returns-2 c =
       wrote = m .wrote;
       inside = m .inside;
       goes = rowToShow-goes (a .run) (a .area .now) (a .piece .now) (length (a .out .now)) (search needs) _ _
-          (subst (λ (r : Run). Advances (length (a .out .now)) (placeOf r (a .area .now) (a .piece .now)) (placed (at .p) (at .area) (a .piece .now)) (m .text)) (c .before .before .before .rows-to-show .ensures) (midway-end (a .area .now) (a .piece .now) (a .out .now) _ (at .area) (at .out) (at .p) m stopped));
+          (subst (λ (r : Run). Advances (length (a .out .now)) (placeOf r (a .area .now) (a .piece .now)) (placed (at .p) (at .area) (a .piece .now)) (m .text)) (c .before .before .before .at-row-to-show .ensures) (midway-end (a .area .now) (a .piece .now) (a .out .now) _ (at .area) (at .out) (at .p) m stopped));
     }
 
 pub advance-spec : {M : Type 1} → statement M

@@ -1,0 +1,2 @@
+-- What the proof of a turn cites.
+mod Idle
