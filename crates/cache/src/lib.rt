@@ -25,13 +25,13 @@ ghost use mathlib.Core.Bool.{cond};
 ghost use Prim.Native.Nat.{_≤_};
 ghost use lib.Dec.{T};
 ghost use Rattle.roles.specs.Sets.{mostRoles, allBelow, partOf};
-ghost use Rattle.meaning.specs.Events.{known};
+ghost use Rattle.meaning.specs.Events.{known, isReply};
 ghost use Rattle.meaning.specs.Rows.{blank, mostOpens, decide};
 ghost use Rattle.rows.specs.Stored.{Tidy, rowOf, storedRow};
 ghost use Rattle.area.specs.State.{isBlank, rowFor, withRow, stateOf, areaOf};
 ghost use Rattle.table.specs.Table.{rowsIn, Sound, foundFor};
 ghost use Rattle.table.specs.declared.Found.the-variants.{At, Vacant};
-ghost use Rattle.calls.specs.Calls.{isReply, eventOf, openOf, replyOf, updateOf, decideOf, forgetOf};
+ghost use Rattle.calls.specs.Calls.{eventOf, openOf, replyOf, updateOf, decideOf, forgetOf};
 ghost use Rattle.calls.specs.Answers.{numberOf, Gives};
 ghost use Rattle.cache.specs.Fresh.{Fresh};
 

@@ -12,11 +12,11 @@ use Rattle.roles.specs.declared.RoleSet.{RoleSet}
 use Rattle.roles.proofs.Tests.{T-and, T-or}
 use Rattle.meaning.specs.declared.Happening.{Happening}
 use Rattle.meaning.specs.declared.Happening.the-variants.{Allow, Deny, Given, Withdrawn}
-use Rattle.meaning.specs.Events.{known, lastPermission}
+use Rattle.meaning.specs.Events.{known, lastPermission, isReply}
 use Rattle.meaning.specs.Rows.{Row, blank, fits, contradicts, step, decide}
 use Rattle.area.specs.Layout.{mostRows, areaBytes, goodBytes}
 use Rattle.area.specs.State.{State, isBlank, rowFor, withRow, stateOf}
-use Rattle.calls.specs.Calls.{Out, stays, holds, valid, isReply, fitsIn, eventOn, eventOf, replied, updated, openOf, onArea, replyOf, updateOf, decideOf, forgetOf}
+use Rattle.calls.specs.Calls.{Out, stays, holds, valid, fitsIn, eventOn, eventOf, replied, updated, openOf, onArea, replyOf, updateOf, decideOf, forgetOf}
 
 pub valid-law : (p : ℕ) → T (valid p) ↔ ((1 ≤ p) × (p ≤ lastPermission))
 valid-law p = (

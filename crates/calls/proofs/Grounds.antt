@@ -10,11 +10,11 @@ use Rattle.roles.specs.Sets.{allBelow, partOf, mostRoles}
 use Rattle.roles.proofs.Tests.{T-and, unlike}
 use Rattle.meaning.specs.declared.Happening.{Happening}
 use Rattle.meaning.specs.declared.Happening.the-variants.{Allow, Deny, Given, Withdrawn}
-use Rattle.meaning.specs.Events.{known, Verdict}
+use Rattle.meaning.specs.Events.{known, Verdict, isReply}
 use Rattle.meaning.specs.Rows.{Row, blank, hasPart, contradicts, step, decide}
 use Rattle.area.specs.Layout.{areaBytes, goodBytes}
 use Rattle.area.specs.State.{State, rowFor, withRow, stateOf}
-use Rattle.calls.specs.Calls.{Out, stays, holds, valid, isReply, fitsIn, eventOn, replied, updated, onArea, openOf, replyOf, updateOf, decideOf, forgetOf}
+use Rattle.calls.specs.Calls.{Out, stays, holds, valid, fitsIn, eventOn, replied, updated, onArea, openOf, replyOf, updateOf, decideOf, forgetOf}
 use Rattle.calls.specs.Demands.{Ground, Exactly, OnGrounds, IsRecorded, ground, areaGrounds, Demand1}
 use Rattle.calls.proofs.Outcomes.{decide-stays}
 
@@ -89,7 +89,6 @@ module _ (l : List ℕ) (p : ℕ) where
         (rung-by l IsRecorded (not (fitsIn (stateOf l) p (step e w))) a _ _ (0 ∷ []) [] z q u (zero-bottom l (withRow (stateOf l) p (step e w)))))
 
 reply-kind : (v s : ℕ) → isReply (replied v s) ≡ true
-unfolding isReply
 reply-kind v s = go (eqb v 1)
   where
     go : (b : Bool) → isReply (cond b (Allow (record { bits = s })) (Deny (record { bits = s }))) ≡ true
@@ -97,7 +96,6 @@ reply-kind v s = go (eqb v 1)
     go false = refl
 
 update-kind : (k r : ℕ) → isReply (updated k r) ≡ false
-unfolding isReply
 update-kind k r = go (eqb k 1)
   where
     go : (b : Bool) → isReply (cond b (Given r) (Withdrawn r)) ≡ false

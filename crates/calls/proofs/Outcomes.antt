@@ -9,7 +9,7 @@ use lib.Dec.{T, leb}
 use Rattle.roles.specs.Sets.{allBelow, partOf}
 use Rattle.roles.proofs.Tests.{T?, T-true, T-false}
 use Rattle.meaning.specs.declared.Happening.{Happening}
-use Rattle.meaning.specs.Events.{known}
+use Rattle.meaning.specs.Events.{known, isReply}
 use Rattle.meaning.specs.Rows.{Row, blank, Good, fits, contradicts, step, settle, decide}
 use Rattle.meaning.proofs.Kept.{step-good}
 use Rattle.meaning.proofs.Answers.{settle-law, fits-law}
@@ -17,7 +17,7 @@ use Rattle.area.specs.Layout.{goodBytes}
 use Rattle.area.specs.State.{State, GoodState, rowFor, withRow, stateOf, areaOf}
 use Rattle.area.proofs.RowLaws.{rowFor-good, put-good, put-most}
 use Rattle.area.proofs.Bytes.{area-good, area-state}
-use Rattle.calls.specs.Calls.{Out, stays, holds, valid, isReply, fitsIn, eventOn, eventOf, replied, updated, replyOf, updateOf, decideOf, forgetOf}
+use Rattle.calls.specs.Calls.{Out, stays, holds, valid, fitsIn, eventOn, eventOf, replied, updated, replyOf, updateOf, decideOf, forgetOf}
 use Rattle.calls.proofs.CallLaws.{valid-law, fitsIn-law, event-unknown, event-contradicts, event-unfit, event-recorded, eventFor, reply-is, update-is, for-no-permission, for-bad-verdict, for-good, decide-bad-area, decide-no-permission, decide-unknown, decide-decides, forget-no-permission, forget-forgets}
 
 -- ---- states with another row

@@ -1,13 +1,13 @@
 -- The calls: what each answers, and the bytes of the lent area after it, as document 01's table reads.
 --     Out                   an answer with the bytes afterwards
 --     stays a l, holds a s  the answer a, and the bytes l, or those of the state s
---     valid, isReply        a permission is 1 to 4,294,967,295; the event is a reply
+--     valid p               p is a permission, 1 to 4,294,967,295
 --     fitsIn s p w          w fits as the row of p: at most 15 open sets, and where it would be a new row, fewer than 128 are used
 --     eventOn, eventOf      an event on a good area: 4, 6, 7 or 8, 0
 --     replied, updated      the happening that a reply's or an update's numbers say
 --     onArea                the refusals that all calls but open share: 1, 3
 --     openOf, replyOf, updateOf, decideOf, forgetOf    the calls, refusals in the order 1, 2, 3, 5, 4, 6, then 7 or 8
-use mathlib.Core.Bool.{Bool, true, false, not, cond, _&&_, _||_}
+use mathlib.Core.Bool.{Bool, not, cond, _&&_, _||_}
 use mathlib.Core.List.{List, []}
 use Prim.Native.Nat.{ℕ}
 use lib.Dec.{eqb, ltb, leb}
@@ -15,7 +15,7 @@ use lib.ListN.{length}
 use Rattle.roles.specs.Sets.{allBelow, partOf, mostRoles}
 use Rattle.meaning.specs.declared.Happening.{Happening}
 use Rattle.meaning.specs.declared.Happening.the-variants.{Allow, Deny, Given, Withdrawn}
-use Rattle.meaning.specs.Events.{known, lastPermission}
+use Rattle.meaning.specs.Events.{known, isReply, lastPermission}
 use Rattle.meaning.specs.Rows.{Row, blank, fits, contradicts, step, decide}
 use Rattle.area.specs.Layout.{mostRows, areaBytes, goodBytes}
 use Rattle.area.specs.State.{State, isBlank, rowFor, withRow, stateOf, areaOf}
@@ -32,12 +32,6 @@ holds a s = record { answer = a; area = areaOf s }
 
 abbrev pub valid : ℕ → Bool
 valid p = leb 1 p && leb p lastPermission
-
-unfoldable pub isReply : Happening → Bool
-isReply (Allow s) = true
-isReply (Deny s) = true
-isReply (Given r) = false
-isReply (Withdrawn r) = false
 
 unfoldable pub fitsIn : State → ℕ → Row → Bool
 fitsIn s p w = fits w && (ltb (length (s .rows)) mostRows || (not (isBlank (rowFor p (s .rows))) || isBlank w))

@@ -25,7 +25,7 @@ unfolding fits
 fits-not-law w = (nleb→lt (length (w .opens)) mostOpens, lt→nleb (length (w .opens)) mostOpens)
 
 -- an update is never contradicted
-update-agrees : (e : Happening) (w : Row) → ¬ (Reply e) → T (not (contradicts e w))
+pub update-agrees : (e : Happening) (w : Row) → ¬ (Reply e) → T (not (contradicts e w))
 unfolding contradicts
 update-agrees (Allow s) w n = absurd (n tt)
 update-agrees (Deny s) w n = absurd (n tt)
@@ -33,13 +33,13 @@ update-agrees (Given r) w n = tt
 update-agrees (Withdrawn r) w n = tt
 
 -- the answer is one of four, by the two tests and by whether the event is a reply
-data Case (e : Happening) (w : Row) : Settled → Type 0 where
+pub data Case (e : Happening) (w : Row) : Settled → Type 0 where
   refused : T (contradicts e w) → Case e w (unchanged 6 w)
   taken : T (not (contradicts e w)) → T (fits (step e w)) → Case e w (record { answer = 0; row = step e w })
   no-room : Reply e → T (not (contradicts e w)) → T (not (fits (step e w))) → Case e w (unchanged 7 w)
   dropped : ¬ (Reply e) → T (not (fits (step e w))) → Case e w forgotten
 
-case : (e : Happening) (w : Row) → Case e w (settle e w)
+pub case : (e : Happening) (w : Row) → Case e w (settle e w)
 unfolding settle overflow
 case e w = go (contradicts e w) (fits (step e w)) refl refl
   where

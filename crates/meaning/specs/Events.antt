@@ -13,9 +13,9 @@
 --     NoneShares, AllShare, OneShares, OneShares-not    no set, every set, some set of P shares a role with the session; some does not
 --     Verdict a            a is 10, 11 or 12
 --     Decides P s a        a is the answer to the session s that the holder sets P force
---     Reply e              the event is a reply, and no update
+--     isReply e, Reply e   the event is a reply, and no update
 use mathlib.Core.Path.{_≡_}
-use mathlib.Core.Bool.{Bool, true, not}
+use mathlib.Core.Bool.{Bool, true, false, not}
 use mathlib.Core.List.{List, [], _∷_}
 use mathlib.Core.Logic.{_↔_, _⊎_}
 use Prim.Native.Nat.{ℕ}
@@ -88,8 +88,11 @@ pub record Decides (P : ℕ → Type 0) (s a : ℕ) : Type 0 where
   pub allow : (a ≡ 11) ↔ AllShare P s
   pub undecided : (a ≡ 12) ↔ (OneShares P s × OneShares-not P s)
 
+abbrev pub isReply : Happening → Bool
+isReply (Allow s) = true
+isReply (Deny s) = true
+isReply (Given r) = false
+isReply (Withdrawn r) = false
+
 abbrev pub Reply : Happening → Type 0
-Reply (Allow s) = Unit {0}
-Reply (Deny s) = Unit {0}
-Reply (Given r) = ⊥
-Reply (Withdrawn r) = ⊥
+Reply e = T (isReply e)

@@ -28,7 +28,7 @@ use Prim.Native.Nat.{ℕ, _≤_, _<_}
 use lib.Dec.{T, eqb, leb}
 use lib.ListN.{length}
 use Rattle.roles.specs.Sets.{single, Below, joined, without, shares, partOf}
-use Rattle.meaning.specs.Events.{HolderSet, known, agrees, Reply}
+use Rattle.meaning.specs.Events.{HolderSet, known, agrees, isReply, Reply}
 use Rattle.meaning.specs.Lists.{Mem, Ascending, any, keep, inOrder}
 use Rattle.meaning.specs.declared.Happening.{Happening}
 use Rattle.meaning.specs.declared.Happening.the-variants.{Allow, Deny, Given, Withdrawn}
@@ -123,10 +123,7 @@ forgotten = record { answer = 8; row = blank }
 
 -- a reply whose new row does not fit is 7, full; such an update is 8, forgotten
 unfoldable pub overflow : Happening → Row → Settled
-overflow (Allow s) w = unchanged 7 w
-overflow (Deny s) w = unchanged 7 w
-overflow (Given r) w = forgotten
-overflow (Withdrawn r) w = forgotten
+overflow e w = cond (isReply e) (unchanged 7 w) forgotten
 
 unfoldable pub settle : Happening → Row → Settled
 settle e w =

@@ -8,7 +8,7 @@ use native.Mathlib.Omega.{arith}
 use lib.ListN.{length}
 use Rattle.words.proofs.Laws.{Bytes}
 use Rattle.meaning.specs.declared.Happening.{Happening}
-use Rattle.meaning.specs.Events.{known}
+use Rattle.meaning.specs.Events.{known, isReply}
 use Rattle.meaning.specs.Rows.{Row, blank, fits, contradicts, step}
 use Rattle.area.specs.Layout.{mostRows, areaBytes}
 use Rattle.area.specs.State.{isBlank, rowFor, withRow, wordsOf, stateOf, areaOf}
@@ -19,7 +19,7 @@ use Rattle.table.specs.Table.{rowsIn, Sound, foundFor}
 use Rattle.table.specs.declared.Found.the-variants.{Vacant}
 use Rattle.calls.specs.declared.Answer.{Answer}
 use Rattle.calls.specs.declared.Answer.the-variants.{Recorded}
-use Rattle.calls.specs.Calls.{Out, stays, isReply, eventOf}
+use Rattle.calls.specs.Calls.{Out, stays, eventOf}
 use Rattle.calls.specs.Answers.{numberOf, Gives}
 use Rattle.cache.specs.Fresh.{Fresh}
 use Rattle.roles.proofs.Tests.{T-true, T-false}
