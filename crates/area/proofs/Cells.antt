@@ -99,12 +99,6 @@ unfolding entriesFrom
 length-entries ws i zero = refl
 length-entries ws i (suc n) = ap suc (length-entries ws (suc i) n)
 
-pub entry-of : (ws : List ℕ) (i n k : ℕ) → k < n → getD (entriesFrom ws i n) k none ≡ entryAt ws (i + k)
-unfolding entriesFrom
-entry-of ws i zero k h = absurd (let z : ⊥ = omega arith in z)
-entry-of ws i (suc n) zero h = ap (entryAt ws) (let e : i ≡ i + 0 = omega arith in e)
-entry-of ws i (suc n) (suc k) h = entry-of ws (suc i) n k (omega arith) ∙ ap (entryAt ws) (let e : suc i + k ≡ i + suc k = omega arith in e)
-
 -- words with the entries of es hold es
 pub entries-are : (ws : List ℕ) (es : List Entry) (i : ℕ) → ((k : ℕ) → k < length es → entryAt ws (i + k) ≡ getD es k none) → entriesFrom ws i (length es) ≡ es
 unfolding entriesFrom

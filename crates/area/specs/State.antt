@@ -129,6 +129,5 @@ insertAt i e es = take i es ++ e ∷ drop i es
 unfoldable pub removeAt : ℕ → List Entry → List Entry
 removeAt i es = take i es ++ drop (suc i) es
 
--- the state with w as the row of p
 abbrev pub withRow : State → ℕ → Row → State
 withRow s p w = record { roles = s .roles; rows = put p w (s .rows) }

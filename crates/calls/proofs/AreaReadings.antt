@@ -13,14 +13,12 @@ use Rattle.meaning.specs.Events.{rolesIn, known}
 use Rattle.meaning.specs.Rows.{Row, blank, hasPart, fits, contradicts, step, decide, rowAfter}
 use Rattle.meaning.specs.Lists.{any}
 use Rattle.meaning.proofs.Theorems as rows
-use Rattle.area.specs.Layout.{goodBytes}
 use Rattle.area.specs.State.{State, Entry, GoodState, isBlank, rowFor, withRow, areaOf}
 use Rattle.area.proofs.RowLaws.{isBlank-law, Hit, hit-law, put-not}
-use Rattle.area.proofs.Bytes.{area-good}
 use Rattle.calls.specs.Calls.{Out, stays, holds, valid, fitsIn, eventOn, replied, replyOf, decideOf}
 use Rattle.calls.specs.Demands as demands
 use Rattle.calls.proofs.CallLaws.{fitsIn-blank, event-contradicts, event-recorded, reply-is, for-good}
-use Rattle.calls.proofs.Outcomes.{event-is, decide-on}
+use Rattle.calls.proofs.Outcomes.{area-is-good, event-is, decide-on}
 
 empty-part : (t : ℕ) → T (partOf 0 t)
 empty-part t = partOf-law 0 t .1 (λ r h. absurd (in-empty r h))
@@ -29,7 +27,7 @@ empty-part t = partOf-law 0 t .1 (λ r h. absurd (in-empty r h))
 reply-event : (s : State) → GoodState s → (p v t : ℕ) → T (valid p) → T (leb v 1) → replyOf (areaOf s) p v t ≡ eventOn (areaOf s) s p (replied v t) (rowFor p (s .rows))
 reply-event s g p v t ok b =
     reply-is (areaOf s) p v t
-    ∙ for-good (areaOf s) p v (replied v t) (T-true (goodBytes (areaOf s)) (area-good s g)) (T-true (valid p) ok) (T-true (leb v 1) b)
+    ∙ for-good (areaOf s) p v (replied v t) (area-is-good s g) (T-true (valid p) ok) (T-true (leb v 1) b)
     ∙ event-is s g p (replied v t)
 
 module _ (s : State) (g : GoodState s) (p : ℕ) (v : T (valid p)) where

@@ -18,9 +18,8 @@ use Rattle.area.proofs.Bytes.{area-good, area-state}
 use Rattle.calls.specs.Calls.{Out, valid, replied, replyOf, decideOf}
 use Rattle.calls.specs.Histories.{Call, reply, update, ask, forget, outOf, lengthened, trailAfter, History, next, history}
 use Rattle.calls.specs.Demands as demands
-use Rattle.roles.proofs.Tests.{T-true}
 use Rattle.calls.proofs.CallLaws.{decide-no-permission, decide-unknown}
-use Rattle.calls.proofs.Outcomes.{decide-on}
+use Rattle.calls.proofs.Outcomes.{area-is-good, decide-on}
 use Rattle.calls.proofs.Invariant.{Holds, next-holds, history-holds}
 use Rattle.calls.proofs.Grounds as grounds
 
@@ -41,12 +40,9 @@ demand-2 l n cs o p s v b =
 decide-by : (s : State) → GoodState s → (q x : ℕ) → decideOf (areaOf s) q x .answer ≡ cond (not (valid q)) 3 (cond (not (partOf x (allBelow (s .roles)))) 4 (decide (rowFor q (s .rows)) x))
 decide-by s g q x = go (valid q) refl (partOf x (allBelow (s .roles))) refl
   where
-    good : goodBytes (areaOf s) ≡ true
-    good = T-true (goodBytes (areaOf s)) (area-good s g)
-
     go : (a : Bool) → valid q ≡ a → (b : Bool) → partOf x (allBelow (s .roles)) ≡ b → decideOf (areaOf s) q x .answer ≡ cond (not a) 3 (cond (not b) 4 (decide (rowFor q (s .rows)) x))
-    go false v b k = ap (λ (o : Out). o .answer) (decide-no-permission (areaOf s) q x good v)
-    go true v false k = ap (λ (o : Out). o .answer) (decide-unknown (areaOf s) q x good v (ap (λ (u : State). partOf x (allBelow (u .roles))) (area-state s g) ∙ k))
+    go false v b k = ap (λ (o : Out). o .answer) (decide-no-permission (areaOf s) q x (area-is-good s g) v)
+    go true v false k = ap (λ (o : Out). o .answer) (decide-unknown (areaOf s) q x (area-is-good s g) v (ap (λ (u : State). partOf x (allBelow (u .roles))) (area-state s g) ∙ k))
     go true v true k = ap (λ (o : Out). o .answer) (decide-on s g q x (subst⁻¹ T v tt) (subst⁻¹ T k tt))
 
 trail-other : (c : Call) (q a : ℕ) (t : List Happening) → demands.about c ≢ q → trailAfter q c a t ≡ t

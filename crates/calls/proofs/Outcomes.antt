@@ -56,11 +56,10 @@ pub data Outcome (s : State) (p : ℕ) (e : Happening) : Out → Type 0 where
       → Outcome s p e (holds 0 (withRow s p (step e (rowFor p (s .rows)))))
   forgotten : GoodState (withRow s p blank) → Outcome s p e (holds 8 (withRow s p blank))
 
-module _ (s : State) (g : GoodState s) (p : ℕ) where
-  -- the area of s is good, and its state is s
-  good : goodBytes (areaOf s) ≡ true
-  good = T-true (goodBytes (areaOf s)) (area-good s g)
+pub area-is-good : (s : State) → GoodState s → goodBytes (areaOf s) ≡ true
+area-is-good s g = T-true (goodBytes (areaOf s)) (area-good s g)
 
+module _ (s : State) (g : GoodState s) (p : ℕ) where
   event-on : T (valid p) → (e : Happening) → Outcome s p e (eventOn (areaOf s) s p e (rowFor p (s .rows)))
   event-on v e = go (known (s .roles) e) refl (contradicts e w) refl (fitsIn s p (step e w)) refl
     where
@@ -92,9 +91,9 @@ module _ (s : State) (g : GoodState s) (p : ℕ) where
   event-for v e = go (valid p) refl (leb v 1) refl
     where
       go : (a : Bool) → valid p ≡ a → (b : Bool) → leb v 1 ≡ b → Outcome s p e (eventFor (areaOf s) p v e)
-      go false a b x = subst⁻¹ (Outcome s p e) (for-no-permission (areaOf s) p v e good a) (refused 3 (λ z. omega arith) (λ z. omega arith))
-      go true a false x = subst⁻¹ (Outcome s p e) (for-bad-verdict (areaOf s) p v e good a x) (refused 5 (λ z. omega arith) (λ z. omega arith))
-      go true a true x = subst⁻¹ (Outcome s p e) (for-good (areaOf s) p v e good a x ∙ event-is e) (event-on (subst⁻¹ T a tt) e)
+      go false a b x = subst⁻¹ (Outcome s p e) (for-no-permission (areaOf s) p v e (area-is-good s g) a) (refused 3 (λ z. omega arith) (λ z. omega arith))
+      go true a false x = subst⁻¹ (Outcome s p e) (for-bad-verdict (areaOf s) p v e (area-is-good s g) a x) (refused 5 (λ z. omega arith) (λ z. omega arith))
+      go true a true x = subst⁻¹ (Outcome s p e) (for-good (areaOf s) p v e (area-is-good s g) a x ∙ event-is e) (event-on (subst⁻¹ T a tt) e)
 
   pub reply-on : (v t : ℕ) → Outcome s p (replied v t) (replyOf (areaOf s) p v t)
   reply-on v t = subst⁻¹ (Outcome s p (replied v t)) (reply-is (areaOf s) p v t) (event-for v (replied v t))
@@ -105,14 +104,14 @@ module _ (s : State) (g : GoodState s) (p : ℕ) where
   pub decide-on : (t : ℕ) → T (valid p) → T (partOf t (allBelow (s .roles))) → decideOf (areaOf s) p t ≡ stays (decide (rowFor p (s .rows)) t) (areaOf s)
   decide-on t v b =
       let st : stateOf (areaOf s) ≡ s = area-state s g in
-      decide-decides (areaOf s) p t good (T-true (valid p) v) (ap (λ (u : State). partOf t (allBelow (u .roles))) st ∙ T-true (partOf t (allBelow (s .roles))) b)
+      decide-decides (areaOf s) p t (area-is-good s g) (T-true (valid p) v) (ap (λ (u : State). partOf t (allBelow (u .roles))) st ∙ T-true (partOf t (allBelow (s .roles))) b)
       ∙ ap (λ (u : State). stays (decide (rowFor p (u .rows)) t) (areaOf s)) st
 
   pub forget-on : (forgetOf (areaOf s) p ≡ stays 3 (areaOf s)) ⊎ (T (valid p) × (forgetOf (areaOf s) p ≡ holds 0 (withRow s p blank)))
   forget-on =
       ⊎-elim
-      (λ v. inr (v, forget-forgets (areaOf s) p good (T-true (valid p) v) ∙ ap (λ (u : State). holds 0 (withRow u p blank)) (area-state s g)))
-      (λ v. inl (forget-no-permission (areaOf s) p good (T-false (valid p) v)))
+      (λ v. inr (v, forget-forgets (areaOf s) p (area-is-good s g) (T-true (valid p) v) ∙ ap (λ (u : State). holds 0 (withRow u p blank)) (area-state s g)))
+      (λ v. inl (forget-no-permission (areaOf s) p (area-is-good s g) (T-false (valid p) v)))
       (T? (valid p))
 
 -- a decision changes nothing

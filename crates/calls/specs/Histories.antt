@@ -74,7 +74,6 @@ abbrev pub calls : List Event → List Call
 calls [] = []
 calls (e ∷ es) = callOf e ∷ calls es
 
--- the events of a stream about p
 unfoldable pub eventsOf : ℕ → List Event → List Happening
 eventsOf p [] = []
 eventsOf p (e ∷ es) = cond (eqb (e .permission) p) (e .happening ∷ eventsOf p es) (eventsOf p es)

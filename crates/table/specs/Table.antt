@@ -37,7 +37,6 @@ holding l es = record { roles = stateOf l .roles; rows = es }
 abbrev pub nth : ℕ → List Entry → Entry
 nth i es = getD es i (entry 0 blank)
 
--- the row that a denied set and open sets make
 abbrev pub rowFrom : RoleSet → OpenSets → Row
 rowFrom d l = record { denied = d .bits; opens = held l }
 

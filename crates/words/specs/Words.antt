@@ -14,7 +14,6 @@ use Prim.Native.Nat.{ℕ, zero, suc, _+_, _*_, _/_, _%_, _≤_}
 use lib.Dec.{eqb}
 use lib.ListN.{length, getD}
 
--- f 0, f 1, .. : n of them
 abbrev pub tab : ℕ → (ℕ → ℕ) → List ℕ
 tab zero f = []
 tab (suc n) f = f zero ∷ tab n (λ (k : ℕ). f (suc k))
@@ -30,7 +29,6 @@ wordAt l i = number 8 l (i * 8) 0
 unfoldable pub words : List ℕ → List ℕ
 words l = tab (length l / 8) (wordAt l)
 
--- the n lowest bytes of x
 abbrev pub split : ℕ → ℕ → List ℕ
 split zero x = []
 split (suc n) x = x % 256 ∷ split n (x / 256)
