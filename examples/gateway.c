@@ -73,7 +73,7 @@ static void mend(struct gateway *gateway, uint32_t answer)
         tell_someone("the cache's memory is damaged; it starts anew and knows nothing");
         return;
     }
-    printf("    answer %u\n", (unsigned)answer);
+    printf("    answer %u, %s\n", (unsigned)answer, wickthrush_answer_name(answer));
     tell_someone("this gateway handed a wrong number to the cache");
 }
 

@@ -1,13 +1,16 @@
 /* Wickthrush: a cache of access decisions that lives in memory lent by the caller.
  *
+ * Every answer of wickthrush_decide is nonzero, deny and undecided too: compare it with WICKTHRUSH_ALLOW, and refuse
+ * on anything else. The other calls are done where they answer WICKTHRUSH_RECORDED, which is 0.
+ *
  * It takes the replies of a decision point and policy updates, and decides requests from them: allow or deny
  * where every assignment of roles that agrees with them says so, undecided otherwise.
  *
- * Roles are 0 to n - 1, where n is the role count. A role set is a number: role r is its bit of weight 2^r.
- * A permission is any number but 0.
+ * Roles are 0 to n - 1, where n is the role count. A role set is a number: role r is its bit of weight 2^r, which is
+ * UINT64_C(1) << r. A permission is any number but 0.
  *
- * The lent area has WICKTHRUSH_AREA_BYTES bytes and may stand at any address. In each call area points to len bytes that
- * may be read and, except in decide, written; with len 0 it may be null. Their contents and len may be anything.
+ * The lent area has WICKTHRUSH_AREA_BYTES bytes and may stand at any address. In each call area points to len bytes
+ * that may be read and, except in decide, written; with len 0 it may be null. Their contents and len may be anything.
  * Nothing else is kept: an area may be copied, moved or stored. Areas are independent of each other; the caller sees to
  * it that no call changes an area while another call is using it.
  *
@@ -19,15 +22,24 @@
 #include <stddef.h>
 #include <stdint.h>
 
+/* Each function is marked by it: an answer that is not looked at is a warning, where the compiler has one. */
+#if defined(__GNUC__)
+#define WICKTHRUSH_MUST_USE __attribute__((warn_unused_result))
+#elif (defined(__cplusplus) && __cplusplus >= 201703L) || (defined(__STDC_VERSION__) && __STDC_VERSION__ >= 202311L)
+#define WICKTHRUSH_MUST_USE [[nodiscard]]
+#else
+#define WICKTHRUSH_MUST_USE
+#endif
+
 #ifdef __cplusplus
 extern "C" {
 #endif
 
 #define WICKTHRUSH_VERSION_MAJOR 0
-#define WICKTHRUSH_VERSION_MINOR 1
+#define WICKTHRUSH_VERSION_MINOR 2
 #define WICKTHRUSH_VERSION_PATCH 0
 
-/* The length of the lent area. */
+/* The bytes of the lent area. */
 #define WICKTHRUSH_AREA_BYTES 18448
 
 /* The largest role count, the most permissions with a row, and the most open sets of a row. */
@@ -49,10 +61,32 @@ enum wickthrush_answer {
     WICKTHRUSH_CONTRADICTION = 6,
     WICKTHRUSH_FULL = 7,
     WICKTHRUSH_FORGOTTEN = 8,
+    WICKTHRUSH_UNREADABLE = 9, /* of the line program alone: no call gives it */
     WICKTHRUSH_DENY = 10,
     WICKTHRUSH_ALLOW = 11,
     WICKTHRUSH_UNDECIDED = 12
 };
+
+/* The answer in words, for logs and messages; "unknown" for a number that is no answer. */
+WICKTHRUSH_MUST_USE static inline const char *wickthrush_answer_name(uint32_t answer)
+{
+    switch (answer) {
+    case WICKTHRUSH_RECORDED: return "recorded";
+    case WICKTHRUSH_BAD_AREA: return "bad area";
+    case WICKTHRUSH_BAD_ROLE_COUNT: return "bad role count";
+    case WICKTHRUSH_NO_PERMISSION: return "no permission";
+    case WICKTHRUSH_UNKNOWN_ROLE: return "unknown role";
+    case WICKTHRUSH_BAD_VERDICT: return "bad verdict";
+    case WICKTHRUSH_CONTRADICTION: return "contradiction";
+    case WICKTHRUSH_FULL: return "full";
+    case WICKTHRUSH_FORGOTTEN: return "forgotten";
+    case WICKTHRUSH_UNREADABLE: return "unreadable";
+    case WICKTHRUSH_DENY: return "deny";
+    case WICKTHRUSH_ALLOW: return "allow";
+    case WICKTHRUSH_UNDECIDED: return "undecided";
+    default: return "unknown";
+    }
+}
 
 /* Makes an area of role_count roles in which nothing is known. The area may hold any bytes before.
  *
@@ -60,7 +94,7 @@ enum wickthrush_answer {
  * WICKTHRUSH_BAD_AREA        len is not WICKTHRUSH_AREA_BYTES; area unchanged
  * WICKTHRUSH_BAD_ROLE_COUNT  role_count is not 1 to 64; area unchanged
  */
-uint32_t wickthrush_open(uint8_t *area, size_t len, uint64_t role_count);
+WICKTHRUSH_MUST_USE uint32_t wickthrush_open(uint8_t *area, size_t len, uint64_t role_count);
 
 /* Takes a reply about a session with the roles of set. It is taken as true at the moment of the call.
  *
@@ -72,7 +106,8 @@ uint32_t wickthrush_open(uint8_t *area, size_t len, uint64_t role_count);
  * WICKTHRUSH_CONTRADICTION  no assignment that was possible agrees with the reply; area unchanged
  * WICKTHRUSH_FULL           the permission's new row has no room; area unchanged
  */
-uint32_t wickthrush_reply(uint8_t *area, size_t len, uint32_t permission, uint64_t verdict, uint64_t set);
+WICKTHRUSH_MUST_USE uint32_t wickthrush_reply(uint8_t *area, size_t len, uint32_t permission, uint64_t verdict,
+                                              uint64_t set);
 
 /* Takes a policy update: the permission was given to the role or withdrawn from it.
  *
@@ -84,7 +119,8 @@ uint32_t wickthrush_reply(uint8_t *area, size_t len, uint32_t permission, uint64
  * WICKTHRUSH_FORGOTTEN      the permission's new row has no room; nothing is known of this permission any more,
  *                           everything else in the area stays
  */
-uint32_t wickthrush_update(uint8_t *area, size_t len, uint32_t permission, uint64_t kind, uint64_t role);
+WICKTHRUSH_MUST_USE uint32_t wickthrush_update(uint8_t *area, size_t len, uint32_t permission, uint64_t kind,
+                                               uint64_t role);
 
 /* Decides whether a session with the roles of set may use the permission. Never changes the area.
  *
@@ -95,7 +131,7 @@ uint32_t wickthrush_update(uint8_t *area, size_t len, uint32_t permission, uint6
  * WICKTHRUSH_NO_PERMISSION  permission is 0
  * WICKTHRUSH_UNKNOWN_ROLE   set has a role at or above the role count
  */
-uint32_t wickthrush_decide(const uint8_t *area, size_t len, uint32_t permission, uint64_t set);
+WICKTHRUSH_MUST_USE uint32_t wickthrush_decide(const uint8_t *area, size_t len, uint32_t permission, uint64_t set);
 
 /* Forgets everything about a permission.
  *
@@ -103,7 +139,7 @@ uint32_t wickthrush_decide(const uint8_t *area, size_t len, uint32_t permission,
  * WICKTHRUSH_BAD_AREA       len is wrong or the bytes are no area; area unchanged
  * WICKTHRUSH_NO_PERMISSION  permission is 0; area unchanged
  */
-uint32_t wickthrush_forget(uint8_t *area, size_t len, uint32_t permission);
+WICKTHRUSH_MUST_USE uint32_t wickthrush_forget(uint8_t *area, size_t len, uint32_t permission);
 
 #ifdef __cplusplus
 }

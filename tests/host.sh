@@ -13,6 +13,20 @@ finish() {
     exit
 }
 
+# passes NAME COMMAND..: the command must succeed; what it said is shown if it does not
+passes() {
+    local name=$1
+    shift
+    if "$@" >"$work/said_by_test" 2>&1; then
+        echo "passed: $name"
+        passed=$((passed + 1))
+    else
+        echo "FAILED: $name"
+        head -n 20 "$work/said_by_test"
+        failed=$((failed + 1))
+    fi
+}
+
 packages() {
     [ "$(id -u)" = 0 ] || stop "please install: $*"
     { apt-get update -qq && DEBIAN_FRONTEND=noninteractive apt-get install -y -qq --no-install-recommends "$@"; } \
@@ -48,10 +62,16 @@ else
     [ -x "${runner[0]}" ] || stop "the kit has no emulator"
 fi
 
-# Runs a command that builds in the folder target: one at a time, for tests run side by side.
+# Whether the machine runs a program of rt with its own C library.
+runs_by_itself() {
+    local complaint
+    [ "$(uname -m)" = x86_64 ] && complaint=$(/lib64/ld-linux-x86-64.so.2 --list "$1" 2>&1 >/dev/null) && [ -z "$complaint" ]
+}
+
+# Runs a command that builds in the folder target, and that is not tools/build: it takes the same lock, so one at a time.
 alone() {
     local lock status
-    exec {lock}<"$root/tests/host.sh" && flock "$lock" || return
+    exec {lock}<"$root/crates.txt" && flock "$lock" || return
     "$@"
     status=$?
     exec {lock}<&-

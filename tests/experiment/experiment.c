@@ -1,4 +1,4 @@
-/* The experiment of document 001, sections 4.1 and 4.2, through the library:
+/* The experiment of the Paper, sections 4.1 and 4.2, through the library:
  *     experiment PLOT TABLES SUMMARY
  * writes a plot (SVG) and two Markdown files. Every run writes the same. */
 #include "../second/groups.h"
@@ -24,7 +24,7 @@ enum {
     UNDECIDED = WICKTHRUSH_UNDECIDED
 };
 
-/* A policy's size, and what document 001 reports for it: the gain over exact reuse in percent, 0 where it says nothing.
+/* A policy's size, and what the Paper reports for it: the gain over exact reuse in percent, 0 where it says nothing.
  */
 struct setup {
     unsigned users, permissions, roles_per_permission, reported_gain;
@@ -237,7 +237,7 @@ static void write_summary(FILE *out, const struct result *results)
     fprintf(out, "\nMean gain over exact reuse in percent, and what did not fit:\n\n");
     fprintf(
         out,
-        "| Users | Permissions | Roles a permission | Gain, document 001 | without limits | areas for all | one area "
+        "| Users | Permissions | Roles a permission | Gain, the Paper | without limits | areas for all | one area "
         "| Replies answered 7, areas for all | one area | Most open sets, without limits |\n"
         "|---|---|---|---|---|---|---|---|---|---|\n");
     for (size_t k = 0; k < SETUPS; k++) {

@@ -1,4 +1,4 @@
-/* Document 01's steps and verdicts for replies, with a row for every permission and no limit on open sets. */
+/* The Rules' steps and verdicts for replies, with a row for every permission and no limit on open sets. */
 #ifndef UNLIMITED_H
 #define UNLIMITED_H
 

@@ -15,7 +15,7 @@ void put(struct bytes *bytes, const void *from, size_t count);
 void put_again(struct bytes *bytes, uint8_t byte, size_t times);
 void putf(struct bytes *bytes, const char *format, ...) __attribute__((format(printf, 2, 3)));
 
-/* A set of roles as document 01 writes it. */
+/* A set of roles as the Rules write it. */
 void put_set(struct bytes *bytes, uint64_t set);
 
 #endif

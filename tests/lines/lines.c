@@ -69,14 +69,21 @@ static void compare_output(const struct bytes *out, const struct bytes *want)
     }
 }
 
-static double compare_with(const struct bytes *in, struct feed feed, const struct bytes *want)
+static struct bytes out, said;
+
+/* The run ended well, and what it printed is `want`. */
+static void judge(struct ended ended, const struct bytes *in, const struct bytes *want)
 {
-    static struct bytes out, said;
-    struct ended ended = run(in, feed, &out, &said);
     check(ended.in_time, "it didn't end on %zu bytes", in->count);
     check(ended.in_time && ended.status == 0, "it ended with %#x", (unsigned)ended.status);
     check(said.count == 0, "it said '%.60s' on standard error", (const char *)said.at);
     compare_output(&out, want);
+}
+
+static double compare_with(const struct bytes *in, struct feed feed, const struct bytes *want)
+{
+    struct ended ended = run(in, feed, &out, &said);
+    judge(ended, in, want);
     return ended.seconds;
 }
 
@@ -215,6 +222,31 @@ static void endings(void)
     for (size_t i = 0; i < 100000; i++)
         putf(&in, "%c", (int)any_below(256));
     compare(&in, from_file);
+}
+
+/* What is held of a line when a read fails need not be all of it. */
+static void failing_input(void)
+{
+    enum { PIPE = 65536 };
+    static const struct {
+        const char *text;
+        size_t times;
+    } held[] = {{"", 1}, {"S", 1}, {"Q 5 1", 1}, {"O 8", 1}, {"x", 1}, {"x", 300}};
+    static struct bytes in, want;
+    group("input that fails within a line: the lines before it are answered, it is not, and the program ends");
+    for (size_t i = 0; i < sizeof held / sizeof held[0]; i++) {
+        for (unsigned way = 0; way < 3; way++) {
+            clear(&in);
+            if (way > 0)
+                put_small(&in, 50);
+            if (way > 1)
+                put_filler(&in, PIPE - strlen(held[i].text) * held[i].times, 0);
+            check(expect(&in, &want), "the stream is out of the second program's reach");
+            for (size_t k = 0; k < held[i].times; k++)
+                putf(&in, "%s", held[i].text);
+            judge(run_dry(&in, &out, &said), &in, &want);
+        }
+    }
 }
 
 /* A line that a read would cut, at every one of its bytes. */
@@ -430,6 +462,7 @@ int main(int count, char **words)
     bad_lines();
     longest_line();
     endings();
+    failing_input();
     boundaries();
     pieces();
     random_streams();

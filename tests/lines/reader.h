@@ -1,4 +1,4 @@
-/* The second side's own reader of lines: what document 01 has the line program print for a stream of bytes.
+/* The second side's own reader of lines: what the Rules have the line program print for a stream of bytes.
  * Answers and rows come from the second program, which enumerates the holder sets of 6 roles. More roles are within its
  * reach where the events on a permission tell at most 6 groups of them apart: a group then stands for one of its 6. */
 #ifndef READER_H

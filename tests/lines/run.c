@@ -35,6 +35,11 @@ static void make_pipe(int ends[2])
     need(pipe2(ends, O_CLOEXEC) == 0, "pipe");
 }
 
+static void set_nonblocking(int file)
+{
+    need(fcntl(file, F_SETFL, O_NONBLOCK) == 0, "fcntl");
+}
+
 static pid_t start(int in, int out, int said, bool ignore)
 {
     pid_t child = fork();
@@ -94,43 +99,39 @@ static void take(struct pollfd *from, struct bytes *to)
     from->fd = -1;
 }
 
-struct ended run(const struct bytes *in, struct feed feed, struct bytes *out, struct bytes *said)
+/* Starts it on `input`, feeds it through `feeding` unless that is -1, and takes what it writes until it ends. */
+static struct ended run_on(int input, int feeding, const struct bytes *in, struct feed feed, struct bytes *out,
+                           struct bytes *said)
 {
-    int input[2] = {-1, -1}, output[2], error[2];
+    int output[2], error[2];
     clear(out);
     clear(said);
     make_pipe(output);
     make_pipe(error);
-    if (feed.most)
-        make_pipe(input);
-    else
-        input[0] = file_of(in);
     double began = now(), deadline = began + PATIENCE;
-    pid_t child = start(input[0], output[1], error[1], false);
-    close(input[0]);
+    pid_t child = start(input, output[1], error[1], false);
+    close(input);
     close(output[1]);
     close(error[1]);
 
-    struct pollfd side[3] = {{output[0], POLLIN, 0}, {error[0], POLLIN, 0}, {input[1], POLLOUT, 0}};
-    if (feed.most)
-        need(fcntl(input[1], F_SETFL, O_NONBLOCK) == 0, "fcntl");
+    struct pollfd side[3] = {{output[0], POLLIN, 0}, {error[0], POLLIN, 0}, {feeding, POLLOUT, 0}};
     size_t done = 0, pieces = 0;
     double resume = began;
     while ((side[0].fd >= 0 || side[1].fd >= 0) && now() < deadline) {
         bool resting = now() < resume;
-        side[2].fd = input[1] >= 0 && !resting ? input[1] : -1;
+        side[2].fd = feeding >= 0 && !resting ? feeding : -1;
         poll(side, 3, resting ? 1 : 100);
         take(&side[0], out);
         take(&side[1], said);
         if (side[2].fd < 0 || !side[2].revents)
             continue;
         size_t left = in->count - done, piece = 1 + pieces++ * ODD_STEP % feed.most;
-        ssize_t put = left ? write(input[1], in->at + done, piece < left ? piece : left) : 0;
+        ssize_t put = left ? write(feeding, in->at + done, piece < left ? piece : left) : 0;
         if (put > 0)
             done += (size_t)put;
         if (left == 0 || (put < 0 && errno != EAGAIN)) {
-            close(input[1]);
-            input[1] = -1;
+            close(feeding);
+            feeding = -1;
         } else if (feed.pauses > 0) {
             feed.pauses--;
             resume = now() + PAUSE_MS / 1e3;
@@ -139,9 +140,32 @@ struct ended run(const struct bytes *in, struct feed feed, struct bytes *out, st
     for (size_t i = 0; i < 2; i++)
         if (side[i].fd >= 0)
             close(side[i].fd);
-    if (input[1] >= 0)
-        close(input[1]);
+    if (feeding >= 0)
+        close(feeding);
     return finish_child(child, began, deadline);
+}
+
+struct ended run(const struct bytes *in, struct feed feed, struct bytes *out, struct bytes *said)
+{
+    int ends[2] = {-1, -1};
+    if (feed.most) {
+        make_pipe(ends);
+        set_nonblocking(ends[1]);
+    } else
+        ends[0] = file_of(in);
+    return run_on(ends[0], ends[1], in, feed, out, said);
+}
+
+struct ended run_dry(const struct bytes *in, struct bytes *out, struct bytes *said)
+{
+    int ends[2];
+    make_pipe(ends);
+    set_nonblocking(ends[0]);
+    set_nonblocking(ends[1]);
+    need(write(ends[1], in->at, in->count) == (ssize_t)in->count, "the pipe has no room");
+    struct ended ended = run_on(ends[0], -1, in, (struct feed){0, 0}, out, said);
+    close(ends[1]);
+    return ended;
 }
 
 struct ended run_and_leave(const struct bytes *in, bool ignore)
@@ -156,7 +180,7 @@ struct ended run_and_leave(const struct bytes *in, bool ignore)
     close(nothing);
     close(input[0]);
     close(output[1]);
-    need(fcntl(input[1], F_SETFL, O_NONBLOCK) == 0, "fcntl");
+    set_nonblocking(input[1]);
 
     struct pollfd side[2] = {{output[0], POLLIN, 0}, {input[1], POLLOUT, 0}};
     char byte = 0;

@@ -24,6 +24,9 @@ struct ended {
 /* Runs it to its end. What it says on standard error goes to `said`. */
 struct ended run(const struct bytes *in, struct feed feed, struct bytes *out, struct bytes *said);
 
+/* Runs it on a pipe that holds these bytes, 64 KiB at most, and has no end: behind them a read fails. */
+struct ended run_dry(const struct bytes *in, struct bytes *out, struct bytes *said);
+
 /* Runs it on the same bytes again and again without end, reads one line of output and closes that side.
  * `ignore`: the signal of a closed pipe is ignored, so that the write itself fails. */
 struct ended run_and_leave(const struct bytes *in, bool ignore);

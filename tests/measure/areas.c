@@ -46,6 +46,16 @@ static uint64_t pair(unsigned k)
     return role(high) | role(k);
 }
 
+/* Four of eight roles, of two neighbours the one has those that the other lacks, and so many roles above them as there are
+ * neighbours before: the sets then ascend, and none is part of another, since their fours differ. */
+static uint64_t crossed(unsigned k)
+{
+    static const uint64_t fours[] = {0x0f, 0x17, 0x1b, 0x1d, 0x1e, 0x27, 0x2b, 0x2d};
+    unsigned pairs = (k + 1) / 2;
+    uint64_t four = k % 2 == 0 && k > 0 ? 0xff ^ fours[pairs] : fours[pairs];
+    return four | (role(pairs) - 1) << 8;
+}
+
 /* Rows differ, so that none of them can stand for another. */
 static unsigned shift(unsigned i)
 {
@@ -60,6 +70,8 @@ static uint64_t open_set(unsigned k, enum kind kind)
         return pair(k);
     case TURNED:
         return role(MOST_OPENS + k) | role(MOST_OPENS - 1 - k);
+    case CROSSED:
+        return crossed(k);
     default:
         return role(k);
     }

@@ -17,8 +17,9 @@ enum {
 
 /* OWN: each open set is one role that no other set of its row has.
  * PAIRS: the open sets are all pairs of few roles, so no set has a role of its own.
- * TURNED: each open set has two roles of its own; without the upper ones the sets stand in falling order. */
-enum kind { OWN, PAIRS, TURNED };
+ * TURNED: each open set has two roles of its own; without the upper ones the sets stand in falling order.
+ * CROSSED: two neighbours together have all roles of the sets before them, an even number of sets from the last on. */
+enum kind { OWN, PAIRS, TURNED, CROSSED };
 
 /* Roles that no filled row denies and no open set has: one below, one above those of all open sets. */
 #define LOWEST_ROLE 0

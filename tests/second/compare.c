@@ -527,7 +527,7 @@ static void retold_streams(void)
         }
         if (count > 1)
             rearrange(calls, count);
-        wickthrush_open(again, BYTES, pair.second.n);
+        check(wickthrush_open(again, BYTES, pair.second.n) == 0, "an area does not open");
         for (size_t i = 0; i < count; i++)
             check(ask_library(again, &calls[i]) == 0, "a retold reply is refused");
         check(memcmp(pair.area, again, BYTES) == 0, "retold knowledge has other bytes");

@@ -1,4 +1,4 @@
-/* The header's numbers, the readings of document 01, the order of refusals, the layout rules, and the memory around the
+/* The header's numbers, the readings of the Rules, the order of refusals, the layout rules, and the memory around the
  * lent area. */
 #define _DEFAULT_SOURCE
 #include "groups.h"
@@ -50,7 +50,7 @@ static void check_guards(const uint8_t *at, const char *name)
 
 /* ---- the header */
 
-/* The second program has its numbers from document 01, not from the header. */
+/* The second program has its numbers from the Rules, not from the header. */
 static void header_numbers(void)
 {
     static const struct {
@@ -75,6 +75,7 @@ static void header_numbers(void)
         NUMBER(CONTRADICTION, 6),
         NUMBER(FULL, 7),
         NUMBER(FORGOTTEN, 8),
+        NUMBER(UNREADABLE, 9),
         NUMBER(DENY, 10),
         NUMBER(ALLOW, 11),
         NUMBER(UNDECIDED, 12),

@@ -135,7 +135,7 @@ static void learn(struct second *second, uint32_t permission, second_sets possib
     second->used++;
 }
 
-/* ---- calls, each with its refusals in the order of document 01 */
+/* ---- calls, each with its refusals in the order of the Rules */
 
 static bool bad_area(const struct second *second, size_t len)
 {

@@ -1,5 +1,5 @@
-/* The second program: what document 01 says of every call, worked out by enumerating holder sets.
- * It keeps no rows and has no steps; it shares nothing with the cache but the numbers of document 01. */
+/* The second program: what the Rules say of every call, worked out by enumerating holder sets.
+ * It keeps no rows and has no steps; it shares nothing with the cache but the numbers of the Rules. */
 #ifndef SECOND_H
 #define SECOND_H
 

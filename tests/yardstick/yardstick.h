@@ -1,4 +1,4 @@
-/* The yardstick: document 01's calls in plain C, to compare the library's answers, bytes and instructions with. */
+/* The yardstick: the Rules' calls in plain C, to compare the library's answers, bytes and instructions with. */
 #ifndef YARDSTICK_H
 #define YARDSTICK_H
 

@@ -1,7 +1,8 @@
 -- Texts written part by part into a buffer that has room for the whole, and how long they are. Assumes nothing.
-use mathlib.Core.Path.{_≡_, refl}
+use mathlib.Core.Path.{_≡_, refl, sym}
 use mathlib.Core.List.{List, [], _∷_, _++_}
 use Prim.Native.Nat.{ℕ, _+_, _*_, _≤_, _<_, _^_}
+use native.Mathlib.Nat.{add-zero}
 use native.Mathlib.Numerals.{add-one}
 use native.Mathlib.Omega.{arith}
 use lib.ListN.{length, drop, getD, length-append, drop-of-length-le}
@@ -14,6 +15,9 @@ use Rattle.text.proofs.Shape.{length-number, length-set-text}
 use Rattle.meaning.specs.Rows.{mostOpens}
 use Rattle.area.specs.State.{Entry}
 use Rattle.answers.specs.Texts.{mostText, answerText, setsOf, setsText, rowText}
+
+pub wrote-nothing : (d : List ℕ) (at : ℕ) → Wrote d at [] d at
+wrote-nothing d at = record { bytes = refl; next = sym (add-zero at) }
 
 pub room-first : (at : ℕ) (t u : List ℕ) {n : ℕ} → at + length (t ++ u) ≤ n → at + length t ≤ n
 room-first at t u h = omega (arith, length-append t u)

@@ -1,4 +1,6 @@
-// Requests answered on the lent area; `write` has answers and rows as text.
+// Requests answered on the lent area, and their answers written. `show` has the rows after an S, `write` answers and rows as
+// text.
+pub mod show;
 pub mod write;
 
 use area::MOST_ROWS;
@@ -7,20 +9,19 @@ use calls::number;
 use meaning::Event;
 use meaning::Happening;
 use requests::Request;
-use walker::begin;
-ghost use mathlib.Core.Path.{_≡_};
-ghost use Rattle.calls.specs.Answers.{numberOf, Gives};
+use show::Shown;
+use show::from_start;
+use write::write_answer;
+ghost use Prim.Native.Nat.{_+_, _≤_};
+ghost use lib.ListN.{length};
+ghost use Rattle.calls.specs.Answers.{Gives};
 ghost use Rattle.calls.specs.Histories.{outOf, callOf};
-ghost use Rattle.answers.specs.Answers.{Answers, noRows, showAnswer};
+ghost use Rattle.answers.specs.Answers.{Answers};
+ghost use Rattle.answers.specs.Texts.{mostText};
+ghost use Rattle.answers.specs.Show.{OnlyAnswer};
 
 // No answer and no row is longer.
 pub const MOST_TEXT: usize = 4096;
-
-// Document 01's number, and the first row to be shown; MOST_ROWS stands for none.
-pub struct Answered {
-    pub answer: u32,
-    pub row: usize,
-}
 
 // An event comes in by the call that it belongs to.
 fn tell(area: &mut [u8], e: Event) -> Answer
@@ -36,39 +37,28 @@ fn tell(area: &mut [u8], e: Event) -> Answer
     }
 }
 
-// The answer of a call, after which no rows follow.
-fn called(r: Answer) -> Answered
-    ensures { λ a. ⌜ a ≡ noRows (numberOf r) ⌝ }
+// An answer written; no rows follow.
+fn write_only(out: &mut [u8], at: usize, line: u64, answer: u32) -> Shown
+    requires { ⌜ at + mostText ≤ length (now out) ⌝ }
+    ensures { λ r. ⌜ OnlyAnswer line answer at (now (out .entry)) r (now (out .exit)) ⌝ }
 {
-    Answered {
-        answer: number(r),
+    Shown {
         row: MOST_ROWS,
+        written: write_answer(out, at, line, answer),
     }
 }
 
-// The answer to S is that to the start of a walk, with its first row.
-fn show(area: &[u8]) -> Answered
-    ensures { λ a. ⌜ a ≡ showAnswer (now (area .entry)) ⌝ }
-{
-    let s = begin(area);
-    Answered {
-        answer: s.answer,
-        row: s.row,
-    }
-}
-
-pub fn answer(area: &mut [u8], q: Request) -> Answered
-    ensures { λ r. ⌜ Answers (now (area .entry)) q r (now (area .exit)) ⌝ }
+// A request answered by its call and the answer written; after S the rows too, as far as there is room.
+pub fn answer(area: &mut [u8], q: Request, line: u64, out: &mut [u8], at: usize) -> Shown
+    requires { ⌜ at + mostText ≤ length (now out) ⌝ }
+    ensures { λ r. ⌜ Answers (now (area .entry)) q line at (now (out .entry)) r (now (area .exit)) (now (out .exit)) ⌝ }
 {
     match q {
-        Request::Open(n) => called(cache::open(area, n)),
-        Request::Told(e) => called(tell(area, e)),
-        Request::Decide(p, s) => called(cache::decide(area, p, s.bits)),
-        Request::Forget(p) => called(cache::forget(area, p)),
-        Request::Show => show(area),
-        Request::Unreadable => Answered {
-            answer: 9,
-            row: MOST_ROWS,
-        },
+        Request::Open(n) => write_only(out, at, line, number(cache::open(area, n))),
+        Request::Told(e) => write_only(out, at, line, number(tell(area, e))),
+        Request::Decide(p, s) => write_only(out, at, line, number(cache::decide(area, p, s.bits))),
+        Request::Forget(p) => write_only(out, at, line, number(cache::forget(area, p))),
+        Request::Show => from_start(area, line, out, at),
+        Request::Unreadable => write_only(out, at, line, number(Answer::Unreadable)),
     }
 }

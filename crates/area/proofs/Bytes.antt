@@ -9,8 +9,8 @@ use lib.Dec.{T, eqb, eqb→eq, eqb-refl}
 use lib.ListN.{length, getD, replicate}
 use lib.Pow.{pow-mono}
 use Rattle.roles.proofs.Tests.{T-and}
-use Rattle.words.specs.Words.{words, bytesOf}
-use Rattle.words.proofs.Laws.{Bytes, length-words, length-bytesOf, words-bytesOf, bytesOf-words}
+use Rattle.words.specs.Words.{Bytes, words, bytesOf}
+use Rattle.words.proofs.Laws.{length-words, length-bytesOf, words-bytesOf, bytesOf-words}
 use Rattle.meaning.specs.Lists.{Mem}
 use Rattle.meaning.specs.Rows.{mostOpens}
 use Rattle.meaning.proofs.ListLaws.{mem-at, mem-take}

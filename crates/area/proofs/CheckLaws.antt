@@ -1,13 +1,13 @@
 -- What the functions of the check cite: runs of words in the layout, rows of zeros, and the rules as tests. Assumes nothing.
 use mathlib.Core.Path.{_≡_, refl, sym, ap, ap₂, _∙_, subst, subst⁻¹}
-use mathlib.Core.Bool.{Bool, true, false, not, _&&_, _||_, and-true, and-false, and-assoc}
+use mathlib.Core.Bool.{Bool, true, false, _&&_, and-true, and-false, and-assoc}
 use mathlib.Core.List.{List}
 use Prim.Native.Nat.{ℕ, zero, suc, _+_, _-_, _*_, _≤_, _<_}
 use native.Mathlib.Numerals.{add-one}
 use native.Mathlib.Nat.{add-zero, add-mul}
 use native.Mathlib.Omega.{arith}
 use borrow.Author.Tests.{le-leb, lt-leb}
-use lib.Dec.{T, eqb, ltb, leb, ltb→lt, le→leb, leb→le}
+use lib.Dec.{T, ltb, leb, ltb→lt, le→leb, leb→le}
 use lib.ListN.{length, getD, take, drop, length-take, length-drop}
 use lib.Seq.{take-all, take-take, drop-drop, getD-take, getD-drop}
 use Rattle.words.specs.Words.{words, Spans, allZero}
@@ -17,15 +17,15 @@ use Rattle.roles.specs.Sets.{allBelow, mostRoles}
 use Rattle.roles.proofs.Tests.{T-and, T-ext}
 use Rattle.meaning.specs.Rows.{mostOpens}
 use Rattle.meaning.specs.Events.{lastPermission}
-use Rattle.opens.specs.Opens.{placesGood}
+use Rattle.opens.specs.Opens.{placesGood, says, bodyGood}
 use Rattle.opens.proofs.OpenRules.{allOf-law}
 use Rattle.area.specs.Layout.{mostRows, areaWords, areaBytes, contentWords, bodyWords, contentsAt, bodiesAt, roleCount, rowsUsed, contents, bodies, permissionAt, countAt, deniedAt, placesAt, permissionBefore, eachBelow, rowRules, goodRowAt, goodArea}
 use Rattle.area.specs.Parts.{goodButWide, zeroRows}
 use Rattle.area.proofs.Rules.{eachBelow-law}
 
 -- tests as code joins them, and as a list of rules does
-regrouped : (a c d o : Bool) → (((a && c) && d) && o) ≡ (a && (c && (d && (o && true))))
-regrouped a c d o = and-assoc (a && c) d o ∙ and-assoc a c (d && o) ∙ ap (λ (x : Bool). a && (c && (d && x))) (sym (and-true o))
+regrouped : (a c d s o : Bool) → (((a && c) && d) && (s && o)) ≡ (a && (c && (d && (s && (o && true)))))
+regrouped a c d s o = and-assoc (a && c) d (s && o) ∙ and-assoc a c (d && (s && o)) ∙ ap (λ (x : Bool). a && (c && (d && (s && x)))) (sym (and-true o))
 
 -- an area has every word of the layout
 pub area-spans : (l : List ℕ) (n : ℕ) → length l ≡ areaBytes → n ≤ areaWords → Spans l n
@@ -118,23 +118,19 @@ zero-rest ws used h e =
 
 -- ---- rows and area, from their tests
 
-pub row-long : (ws : List ℕ) (i : ℕ) → mostOpens < countAt ws i → false ≡ goodButWide ws i
-unfolding goodButWide
-row-long ws i h = rw (lt-leb (countAt ws i) mostOpens h, and-false (ltb (permissionBefore ws i) (permissionAt ws i)))
-
--- the words of row i that are read, the tests that need no open set, and the test of the places
-pub row-made : (ws : List ℕ) (i : ℕ) → i < mostRows → (b : Bool) {last p c d m : ℕ} {places : Bool} → p ≡ getD ws (contentsAt + i * contentWords) 0
-    → c ≡ getD ws (contentsAt + i * contentWords + 1) 0 → c ≤ mostOpens → d ≡ getD ws (bodiesAt + i * bodyWords) 0 → last ≡ permissionBefore ws i → m ≡ allBelow (roleCount ws)
-    → ((ltb last p && leb d m) && (not (eqb d 0) || not (eqb c 0))) ≡ b
-    → places ≡ placesGood m d c (take mostOpens (drop (bodiesAt + i * bodyWords + 1) ws)) → (b && places) ≡ goodButWide ws i
-unfolding goodButWide
-row-made ws i h b {last} {p} {c} {d} {m} wp wc few wd el em eb eo =
+-- the words of row i that are read, the tests that need no open set, and the test of the body
+pub row-made : (ws : List ℕ) (i : ℕ) → i < mostRows → (b : Bool) {last p c d m : ℕ} {body : Bool} → p ≡ getD ws (contentsAt + i * contentWords) 0
+    → c ≡ getD ws (contentsAt + i * contentWords + 1) 0 → d ≡ getD ws (bodiesAt + i * bodyWords) 0 → last ≡ permissionBefore ws i → m ≡ allBelow (roleCount ws)
+    → ((ltb last p && leb c mostOpens) && leb d m) ≡ b
+    → body ≡ bodyGood m d c (take mostOpens (drop (bodiesAt + i * bodyWords + 1) ws)) → (b && body) ≡ goodButWide ws i
+unfolding goodButWide bodyGood
+row-made ws i h b {last} {p} {c} {d} {m} wp wc wd el em eb eo =
     let ep = wp ∙ permission-word ws i h in
     let ec = wc ∙ count-word ws i h in
     let ed = wd ∙ denied-word ws i h in
-    ap₂ _&&_ (sym eb) (eo ∙ ap (placesGood m d c) (sym (places-run ws i h)))
-    ∙ regrouped (ltb last p) (leb d m) (not (eqb d 0) || not (eqb c 0)) (placesGood m d c (placesAt ws i))
-    ∙ rw (em, el, ep, ← ec, le-leb c mostOpens few, ed)
+    ap₂ _&&_ (sym eb) (eo ∙ ap (bodyGood m d c) (sym (places-run ws i h)))
+    ∙ regrouped (ltb last p) (leb c mostOpens) (leb d m) (says d c) (placesGood m d c (placesAt ws i))
+    ∙ rw (em, el, ep, ec, ed)
 
 -- ---- permissions ascend: where the last one is valid, all are
 

@@ -7,7 +7,7 @@ use Prim.Native.Nat.{ℕ, _<_}
 use native.Mathlib.Omega.{arith}
 use lib.Dec.{T, eqb}
 use lib.ListN.{length, getD}
-use Rattle.words.proofs.Laws.{Bytes}
+use Rattle.words.specs.Words.{Bytes}
 use Rattle.meaning.specs.Rows.{Row, mostOpens}
 use Rattle.meaning.proofs.Singles.{singles, length-singles, singles-good}
 use Rattle.area.specs.Layout.{mostRows, goodBytes}

@@ -26,7 +26,7 @@
 --     rowRules, areaRules               the rules for a row, the area, over the area's words
 --     goodRowAt, goodArea               all of them hold
 --     goodBytes                         the bytes are a good area
-use mathlib.Core.Bool.{Bool, true, not, _&&_, _||_}
+use mathlib.Core.Bool.{Bool, true, not, _&&_}
 use mathlib.Core.List.{List, [], _∷_}
 use Prim.Native.Nat.{ℕ, zero, suc, _+_, _*_}
 use lib.Dec.{eqb, ltb, leb}
@@ -35,7 +35,7 @@ use Rattle.words.specs.Words.{words, allZero}
 use Rattle.roles.specs.Sets.{mostRoles, allBelow}
 use Rattle.meaning.specs.Events.{lastPermission}
 use Rattle.meaning.specs.Rows.{mostOpens}
-use Rattle.opens.specs.Opens.{allOf, placesGood}
+use Rattle.opens.specs.Opens.{allOf, placesGood, says}
 
 -- ---- the numbers
 
@@ -121,7 +121,7 @@ rowRules ws i =
     ∷ ltb (permissionBefore ws i) (permissionAt ws i)
     ∷ leb (countAt ws i) mostOpens
     ∷ leb (deniedAt ws i) (allBelow (roleCount ws))
-    ∷ (not (eqb (deniedAt ws i) 0) || not (eqb (countAt ws i) 0))
+    ∷ says (deniedAt ws i) (countAt ws i)
     ∷ placesGood (allBelow (roleCount ws)) (deniedAt ws i) (countAt ws i) (placesAt ws i)
     ∷ []
 

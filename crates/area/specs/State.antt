@@ -1,9 +1,10 @@
 -- What an area holds: the role count and the rows by ascending permission; and the bytes that it is written as.
 --     Entry, entry, State  a permission with its row; the role count with the rows
+--     opened n, withRows s es    the state just after an opening with n roles; s with other rows
 --     isBlank w            the row says nothing
 --     GoodRow, GoodRows, GoodState    the rules of a good area, as rules of what it holds
 --     content, body, header           the words of an entry of the contents, of a body, of the header
---     pad, each            so many places, zeros behind; something of each row, one after the other
+--     pad n l, each f es   l in n places, zeros behind; f of each row, one after the other
 --     areaOf s             the bytes of a state: contents first, then bodies, zeros behind them
 --     stateOf l            the state that the bytes hold
 --     wordsOf, heldBy      the same two between a state and words
@@ -34,6 +35,12 @@ pub record State : Type 0 where
 
 abbrev pub entry : ℕ → Row → Entry
 entry p w = record { permission = p; row = w }
+
+abbrev pub opened : ℕ → State
+opened n = record { roles = n; rows = [] }
+
+abbrev pub withRows : State → List Entry → State
+withRows s es = record { roles = s .roles; rows = es }
 
 -- ---- a good state
 
@@ -130,4 +137,4 @@ unfoldable pub removeAt : ℕ → List Entry → List Entry
 removeAt i es = take i es ++ drop (suc i) es
 
 abbrev pub withRow : State → ℕ → Row → State
-withRow s p w = record { roles = s .roles; rows = put p w (s .rows) }
+withRow s p w = withRows s (put p w (s .rows))

@@ -9,60 +9,64 @@ use crate::ROLE_COUNT_AT;
 use crate::ROWS_USED_AT;
 use meaning::LAST_PERMISSION;
 use meaning::MOST_OPENS;
-use opens::places_good;
+use opens::places_few;
+use opens::places_many;
 use roles::MOST_ROLES;
 use roles::RoleSet;
 use words::are_zero;
 use words::get_word;
 ghost use mathlib.Core.Path.{_≡_};
-ghost use Prim.Native.Nat.{_+_, _-_, _≤_, _<_};
+ghost use Prim.Native.Nat.{_+_, _-_, _≤_};
 ghost use lib.ListN.{length};
 ghost use Rattle.words.specs.Words.{words};
 ghost use Rattle.roles.specs.Sets.{allBelow};
-ghost use Rattle.area.specs.Layout.{mostRows, areaBytes, roleCount, permissionBefore, eachBelow, goodRowAt, goodBytes};
-ghost use Rattle.area.specs.Parts.{goodButWide, zeroRows};
+ghost use Rattle.area.specs.Layout.{mostRows, areaBytes, roleCount, eachBelow, goodRowAt, goodBytes};
+ghost use Rattle.area.specs.Parts.{zeroRows};
 
 // So many unused rows are looked at together, as straight code.
 const STRIDE: usize = 8;
 
-// Whether row i is good but for the width of its permission, where `last` is the permission of the row before.
-fn row_good(a: &[u8], i: usize, last: u64, all: RoleSet) -> bool
-    requires { ⌜ (length (now a) ≡ areaBytes) × (i < mostRows) × (last ≡ permissionBefore (words (now a)) i) × (all .bits ≡ allBelow (roleCount (words (now a)))) ⌝ }
-    ensures { λ r. ⌜ r ≡ goodButWide (words (now (a .entry))) i ⌝ }
-{
-    let content = CONTENTS_AT + i * CONTENT_WORDS;
-    let body = BODIES_AT + i * BODY_WORDS;
-    let p = get_word(a, content);
-    let count = get_word(a, content + 1);
-    if (MOST_OPENS as u64) < count {
-        return false;
-    }
-    let c = count as usize;
-    let d = RoleSet {
-        bits: get_word(a, body),
-    };
-    let ok = (last < p) & (d.bits <= all.bits) & ((d.bits != 0) | (count != 0));
-    if !ok {
-        return false;
-    }
-    places_good(a, body + 1, c, d, all)
-}
-
 // Whether the first `used` rows are good. Their permissions ascend, so the last one alone is tested for its width.
-fn rows_good(a: &[u8], used: usize, all: RoleSet) -> bool
+fn used_rows_good(a: &[u8], used: usize, all: RoleSet) -> bool
     requires { ⌜ (length (now a) ≡ areaBytes) × (used ≤ mostRows) × (all .bits ≡ allBelow (roleCount (words (now a)))) ⌝ }
     ensures { λ r. ⌜ r ≡ eachBelow used (goodRowAt (words (now (a .entry)))) ⌝ }
 {
     let mut last: u64 = 0;
     let mut i: usize = 0;
     while i < used {
-        if !row_good(a, i, last, all) {
+        let content = CONTENTS_AT + i * CONTENT_WORDS;
+        let body = BODIES_AT + i * BODY_WORDS;
+        let p = get_word(a, content);
+        let count = get_word(a, content + 1);
+        let d = RoleSet {
+            bits: get_word(a, body),
+        };
+        let ok = (last < p) & (count <= MOST_OPENS as u64) & (d.bits <= all.bits);
+        if !ok {
             return false;
         }
-        last = get_word(a, CONTENTS_AT + i * CONTENT_WORDS);
+        let c = count as usize;
+        if !places_few(a, body + 1, c, d, all) {
+            return false;
+        }
+        if !places_many(a, body + 1, c, d, all) {
+            return false;
+        }
+        last = p;
         i += 1;
     }
     last <= LAST_PERMISSION
+}
+
+// `used_rows_good`, without that long function where no row is used.
+fn rows_good(a: &[u8], used: usize, all: RoleSet) -> bool
+    requires { ⌜ (length (now a) ≡ areaBytes) × (used ≤ mostRows) × (all .bits ≡ allBelow (roleCount (words (now a)))) ⌝ }
+    ensures { λ r. ⌜ r ≡ eachBelow used (goodRowAt (words (now (a .entry)))) ⌝ }
+{
+    if used == 0 {
+        return true;
+    }
+    used_rows_good(a, used, all)
 }
 
 // Whether the n rows from row i on are zeros.
@@ -74,7 +78,7 @@ fn are_unused(a: &[u8], i: usize, n: usize) -> bool
         & are_zero(a, BODIES_AT + i * BODY_WORDS, n * BODY_WORDS)
 }
 
-// Whether all rows from row `used` on are zeros.
+// Whether all rows from row `used` on are zeros: eight at a time, then one by one.
 fn rest_unused(a: &[u8], used: usize) -> bool
     requires { ⌜ (length (now a) ≡ areaBytes) × (used ≤ mostRows) ⌝ }
     ensures { λ r. ⌜ r ≡ zeroRows (words (now (a .entry))) used (mostRows - used) ⌝ }
@@ -86,7 +90,13 @@ fn rest_unused(a: &[u8], used: usize) -> bool
         }
         i += STRIDE;
     }
-    are_unused(a, i, MOST_ROWS - i)
+    while i < MOST_ROWS {
+        if !are_unused(a, i, 1) {
+            return false;
+        }
+        i += 1;
+    }
+    true
 }
 
 // Whether the bytes are a good area.

@@ -1,7 +1,7 @@
 -- What is known at the front of a call, and the answers of a decision and of an opening. Assumes nothing.
 use mathlib.Core.Path.{_≡_, refl, sym, ap, ap₂, _∙_, subst⁻¹}
 use mathlib.Core.Bool.{Bool, true, false, not, _&&_, _||_}
-use mathlib.Core.List.{List, []}
+use mathlib.Core.List.{List}
 use Prim.Native.Nat.{ℕ, _≤_}
 use native.Mathlib.Omega.{arith}
 use lib.Dec.{T, eqb, ltb, leb}
@@ -16,7 +16,7 @@ use Rattle.rows.specs.Stored.{Tidy, rowOf, storedRow}
 use Rattle.rows.specs.declared.Row.{Row}
 use Rattle.rows.proofs.Padded.{stored⇒tidy, stored⇒row}
 use Rattle.area.specs.Layout.{areaBytes, goodBytes}
-use Rattle.area.specs.State.{rowFor, stateOf, areaOf}
+use Rattle.area.specs.State.{opened, rowFor, stateOf, areaOf}
 use Rattle.area.proofs.RowLaws.{rowFor-few}
 use Rattle.area.proofs.Bytes.{good-state}
 use Rattle.table.specs.Table.{rowsIn, Sound}
@@ -85,5 +85,5 @@ module _ (l : List ℕ) (n : ℕ) where
   pub open-2 : length l ≡ areaBytes → (ltb n 1 || ltb mostRoles n) ≡ true → Gives (openOf l n) BadRoleCount l
   open-2 h k = gives (openOf l n) BadRoleCount l (open-bad-count l n (eq-eqb (length l) areaBytes h) (count-is n true k))
 
-  pub open-go : (m : List ℕ) → length l ≡ areaBytes → (ltb n 1 || ltb mostRoles n) ≡ false → m ≡ areaOf (record { roles = n; rows = [] }) → Gives (openOf l n) Recorded m
+  pub open-go : (m : List ℕ) → length l ≡ areaBytes → (ltb n 1 || ltb mostRoles n) ≡ false → m ≡ areaOf (opened n) → Gives (openOf l n) Recorded m
   open-go m h k e = gives (openOf l n) Recorded m (open-recorded l n (eq-eqb (length l) areaBytes h) (count-is n false k) ∙ ap (stays 0) (sym e))

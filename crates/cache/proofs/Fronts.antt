@@ -11,9 +11,9 @@ use Rattle.area.specs.Layout.{goodBytes}
 use Rattle.area.specs.State.{withRow, stateOf, areaOf}
 use Rattle.calls.specs.declared.Answer.{Answer}
 use Rattle.calls.specs.declared.Answer.the-variants.{Recorded, BadArea, NoPermission, BadVerdict}
-use Rattle.calls.specs.Calls.{Out, stays, valid, eventOf, forgetOf}
+use Rattle.calls.specs.Calls.{Out, stays, valid, eventOf, eventFor, forgetOf}
 use Rattle.calls.specs.Answers.{Gives}
-use Rattle.calls.proofs.CallLaws.{eventFor, for-bad-area, for-no-permission, for-bad-verdict, for-good, forget-bad-area, forget-no-permission, forget-forgets}
+use Rattle.calls.proofs.CallLaws.{for-bad-area, for-no-permission, for-bad-verdict, for-good, forget-bad-area, forget-no-permission, forget-forgets}
 use Rattle.cache.proofs.Ladder.{gives}
 
 -- ---- an event, its numbers first

@@ -11,7 +11,7 @@ use Rattle.roles.proofs.Tests.{T-true, T-false, unlike}
 use Rattle.meaning.proofs.Answers.{Case, refused, taken, no-room, dropped, case, update-agrees}
 use Rattle.area.specs.State.{State, withRow}
 use Rattle.calls.specs.declared.Answer.{Answer}
-use Rattle.calls.specs.Calls.{Out, stays, holds, eventOn}
+use Rattle.calls.specs.Calls.{Out, stays, writes, eventOn}
 use Rattle.calls.specs.Answers.{numberOf, Gives}
 use Rattle.calls.proofs.CallLaws.{unfit, event-contradicts, event-unfit}
 
@@ -24,7 +24,7 @@ gives o r l e = record { answer = sym (ap (λ (x : Out). x .answer) e); area = s
 pub record Entered (l : List ℕ) (s : State) (p : ℕ) (e : Happening) (w : Row) (t : Settled) : Type 0 where
   pub contradiction : t .answer ≡ 6 → eventOn l s p e w ≡ stays 6 l
   pub full : t .answer ≡ 7 → eventOn l s p e w ≡ stays 7 l
-  pub forgets : t .answer ≡ 8 → eventOn l s p e w ≡ holds 8 (withRow s p (t .row))
+  pub forgets : t .answer ≡ 8 → eventOn l s p e w ≡ writes 8 (withRow s p (t .row))
   pub forgets-row : t .answer ≡ 8 → t .row ≡ blank
   pub agrees : t .answer ≡ 0 → contradicts e w ≡ false
   pub fitting : t .answer ≡ 0 → fits (step e w) ≡ true

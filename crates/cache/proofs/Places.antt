@@ -8,8 +8,8 @@ use lib.Dec.{T, ltb, eqb, ltb→lt, eqb→eq}
 use lib.ListN.{length}
 use borrow.Author.Tests.{lt-ltb, eq-eqb}
 use Rattle.roles.proofs.Tests.{T-and}
-use Rattle.words.specs.Words.{words, bytesOf}
-use Rattle.words.proofs.Laws.{Bytes, bytesOf-words}
+use Rattle.words.specs.Words.{Bytes, words, bytesOf}
+use Rattle.words.proofs.Laws.{bytesOf-words}
 use Rattle.area.specs.Layout.{areaBytes}
 use Rattle.area.specs.State.{Entry, State, place, wordsOf, areaOf}
 use Rattle.area.proofs.RowLaws.{Hit}

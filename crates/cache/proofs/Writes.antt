@@ -6,7 +6,7 @@ use Prim.Native.Nat.{ℕ, _≤_, _<_}
 use native.Mathlib.Omega.{arith}
 use lib.Dec.{T}
 use lib.ListN.{length, set}
-use Rattle.words.proofs.Laws.{Bytes}
+use Rattle.words.specs.Words.{Bytes}
 use Rattle.roles.specs.Sets.{mostRoles}
 use Rattle.meaning.specs.declared.Happening.{Happening}
 use Rattle.meaning.specs.Events.{known}

@@ -1,7 +1,7 @@
 -- The laws of the calls' definitions, refusal by refusal. Assumes nothing.
 use mathlib.Core.Path.{_≡_, refl, ap, _∙_, subst, subst⁻¹}
 use mathlib.Core.Bool.{Bool, true, false, not, cond, _&&_, _||_, or-true}
-use mathlib.Core.List.{List, []}
+use mathlib.Core.List.{List}
 use mathlib.Core.Logic.{_↔_, ⊎-elim}
 use Prim.Native.Nat.{ℕ, _≤_, _<_}
 use borrow.Author.Tests.{eq-eqb, ne-eqb, le-leb, lt-ltb, le-ltb}
@@ -9,14 +9,14 @@ use lib.Dec.{T, eqb, ltb, leb, leb→le, ltb→lt}
 use lib.ListN.{length}
 use Rattle.roles.specs.Sets.{allBelow, partOf, mostRoles}
 use Rattle.roles.specs.declared.RoleSet.{RoleSet}
-use Rattle.roles.proofs.Tests.{T-and, T-or}
+use Rattle.roles.proofs.Tests.{T-and, T-or, unlike}
 use Rattle.meaning.specs.declared.Happening.{Happening}
 use Rattle.meaning.specs.declared.Happening.the-variants.{Allow, Deny, Given, Withdrawn}
 use Rattle.meaning.specs.Events.{known, lastPermission, isReply}
 use Rattle.meaning.specs.Rows.{Row, blank, fits, contradicts, step, decide}
 use Rattle.area.specs.Layout.{mostRows, areaBytes, goodBytes}
-use Rattle.area.specs.State.{State, isBlank, rowFor, withRow, stateOf}
-use Rattle.calls.specs.Calls.{Out, stays, holds, valid, fitsIn, eventOn, eventOf, replied, updated, openOf, onArea, replyOf, updateOf, decideOf, forgetOf}
+use Rattle.area.specs.State.{State, opened, isBlank, rowFor, withRow, stateOf}
+use Rattle.calls.specs.Calls.{stays, writes, valid, fitsIn, afterRefusal, eventOn, eventOf, replied, updated, eventFor, openOf, replyOf, updateOf, decideOf, forgetOf}
 
 pub valid-law : (p : ℕ) → T (valid p) ↔ ((1 ≤ p) × (p ≤ lastPermission))
 valid-law p = (
@@ -35,24 +35,20 @@ module _ (l : List ℕ) (n : ℕ) where
   unfolding openOf
   open-bad-count h k = rw (h, k)
 
-  pub open-recorded : eqb (length l) areaBytes ≡ true → (leb 1 n && leb n mostRoles) ≡ true → openOf l n ≡ holds 0 (record { roles = n; rows = [] })
+  pub open-recorded : eqb (length l) areaBytes ≡ true → (leb 1 n && leb n mostRoles) ≡ true → openOf l n ≡ writes 0 (opened n)
   unfolding openOf
   open-recorded h k = rw (h, k)
 
--- ---- the refusals that all other calls share
-
-module _ (l : List ℕ) (p : ℕ) (o : Out) where
-  pub on-bad-area : goodBytes l ≡ false → onArea l p o ≡ stays 1 l
-  unfolding onArea
-  on-bad-area h = rw h
-
-  pub on-no-permission : goodBytes l ≡ true → valid p ≡ false → onArea l p o ≡ stays 3 l
-  unfolding onArea
-  on-no-permission h v = rw (h, v)
-
-  pub on-good : goodBytes l ≡ true → valid p ≡ true → onArea l p o ≡ o
-  unfolding onArea
-  on-good h v = rw (h, v)
+  -- answered 0 it leaves no rows
+  pub open-law : openOf l n .answer ≡ 0 → (openOf l n ≡ writes 0 (opened n)) × T (leb 1 n && leb n mostRoles)
+  unfolding openOf
+  open-law = go (not (eqb (length l) areaBytes)) (leb 1 n && leb n mostRoles)
+    where
+      go : (a b : Bool) → cond a (stays 1 l) (cond (not b) (stays 2 l) (writes 0 (opened n))) .answer ≡ 0
+          → (cond a (stays 1 l) (cond (not b) (stays 2 l) (writes 0 (opened n))) ≡ writes 0 (opened n)) × T b
+      go true b e = unlike tt e
+      go false false e = unlike tt e
+      go false true e = (refl, tt)
 
 -- ---- whether a row has a place
 
@@ -106,44 +102,44 @@ module _ (l : List ℕ) (s : State) (p : ℕ) (e : Happening) (w : Row) where
     unfolding eventOn
     event-contradicts c = rw (k, c)
 
-    pub event-unfit : contradicts e w ≡ false → fitsIn s p (step e w) ≡ false → eventOn l s p e w ≡ cond (isReply e) (stays 7 l) (holds 8 (withRow s p blank))
+    pub event-unfit : contradicts e w ≡ false → fitsIn s p (step e w) ≡ false → eventOn l s p e w ≡ cond (isReply e) (stays 7 l) (writes 8 (withRow s p blank))
     unfolding eventOn
-    event-unfit c f = rw (k, c, f)
+    event-unfit c f = rw (k, c, f) (go (isReply e))
+      where
+        go : (b : Bool) → afterRefusal l s p (cond b 7 8) ≡ cond b (stays 7 l) (writes 8 (withRow s p blank))
+        go true = refl
+        go false = refl
 
-    pub event-recorded : contradicts e w ≡ false → fitsIn s p (step e w) ≡ true → eventOn l s p e w ≡ holds 0 (withRow s p (step e w))
+    pub event-recorded : contradicts e w ≡ false → fitsIn s p (step e w) ≡ true → eventOn l s p e w ≡ writes 0 (withRow s p (step e w))
     unfolding eventOn
     event-recorded c f = rw (k, c, f)
 
 -- ---- a reply and an update
 
--- an event e that came in with the verdict or the kind v
-unfoldable pub eventFor : List ℕ → ℕ → ℕ → Happening → Out
-eventFor l p v e = onArea l p (cond (not (leb v 1)) (stays 5 l) (eventOf l p e))
-
 pub reply-is : (l : List ℕ) (p v s : ℕ) → replyOf l p v s ≡ eventFor l p v (replied v s)
-unfolding replyOf eventFor
+unfolding replyOf
 reply-is l p v s = refl
 
 pub update-is : (l : List ℕ) (p v r : ℕ) → updateOf l p v r ≡ eventFor l p v (updated v r)
-unfolding updateOf eventFor
+unfolding updateOf
 update-is l p v r = refl
 
 module _ (l : List ℕ) (p v : ℕ) (e : Happening) where
   pub for-bad-area : goodBytes l ≡ false → eventFor l p v e ≡ stays 1 l
   unfolding eventFor
-  for-bad-area h = on-bad-area l p _ h
+  for-bad-area h = rw h
 
   pub for-no-permission : goodBytes l ≡ true → valid p ≡ false → eventFor l p v e ≡ stays 3 l
   unfolding eventFor
-  for-no-permission h k = on-no-permission l p _ h k
+  for-no-permission h k = rw (h, k)
 
   pub for-bad-verdict : goodBytes l ≡ true → valid p ≡ true → leb v 1 ≡ false → eventFor l p v e ≡ stays 5 l
   unfolding eventFor
-  for-bad-verdict h k u = on-good l p _ h k ∙ rw u
+  for-bad-verdict h k u = rw (h, k, u)
 
   pub for-good : goodBytes l ≡ true → valid p ≡ true → leb v 1 ≡ true → eventFor l p v e ≡ eventOf l p e
   unfolding eventFor
-  for-good h k u = on-good l p _ h k ∙ rw u
+  for-good h k u = rw (h, k, u)
 
 pub replied-one : (v : ℕ) (s : RoleSet) → v ≡ 1 → replied v (s .bits) ≡ Allow s
 replied-one v s e = ap (λ (b : Bool). cond b (Allow s) (Deny s)) (eq-eqb v 1 e)
@@ -162,31 +158,31 @@ updated-other v r e = ap (λ (b : Bool). cond b (Given r) (Withdrawn r)) (ne-eqb
 module _ (l : List ℕ) (p s : ℕ) where
   pub decide-bad-area : goodBytes l ≡ false → decideOf l p s ≡ stays 1 l
   unfolding decideOf
-  decide-bad-area h = on-bad-area l p _ h
+  decide-bad-area h = rw h
 
   pub decide-no-permission : goodBytes l ≡ true → valid p ≡ false → decideOf l p s ≡ stays 3 l
   unfolding decideOf
-  decide-no-permission h v = on-no-permission l p _ h v
+  decide-no-permission h v = rw (h, v)
 
   pub decide-unknown : goodBytes l ≡ true → valid p ≡ true → partOf s (allBelow (stateOf l .roles)) ≡ false → decideOf l p s ≡ stays 4 l
   unfolding decideOf
-  decide-unknown h v k = on-good l p _ h v ∙ rw k
+  decide-unknown h v k = rw (h, v, k)
 
   pub decide-decides : goodBytes l ≡ true → valid p ≡ true → partOf s (allBelow (stateOf l .roles)) ≡ true → decideOf l p s ≡ stays (decide (rowFor p (stateOf l .rows)) s) l
   unfolding decideOf
-  decide-decides h v k = on-good l p _ h v ∙ rw k
+  decide-decides h v k = rw (h, v, k)
 
 -- ---- forgetting
 
 module _ (l : List ℕ) (p : ℕ) where
   pub forget-bad-area : goodBytes l ≡ false → forgetOf l p ≡ stays 1 l
   unfolding forgetOf
-  forget-bad-area h = on-bad-area l p _ h
+  forget-bad-area h = rw h
 
   pub forget-no-permission : goodBytes l ≡ true → valid p ≡ false → forgetOf l p ≡ stays 3 l
   unfolding forgetOf
-  forget-no-permission h v = on-no-permission l p _ h v
+  forget-no-permission h v = rw (h, v)
 
-  pub forget-forgets : goodBytes l ≡ true → valid p ≡ true → forgetOf l p ≡ holds 0 (withRow (stateOf l) p blank)
+  pub forget-forgets : goodBytes l ≡ true → valid p ≡ true → forgetOf l p ≡ writes 0 (withRow (stateOf l) p blank)
   unfolding forgetOf
-  forget-forgets h v = on-good l p _ h v
+  forget-forgets h v = rw (h, v)

@@ -2,10 +2,11 @@
 use mathlib.Core.Path.{_≡_, refl, sym, ap, ap₂, _∙_, subst, subst⁻¹}
 use mathlib.Core.Bool.{Bool, true, false, not, cond}
 use mathlib.Core.List.{List}
-use mathlib.Core.Logic.{_↔_, _≢_, Iff·trans}
-use Prim.Native.Nat.{ℕ}
+use mathlib.Core.Logic.{_↔_, Iff·trans}
+use Prim.Native.Nat.{ℕ, _^_, _≤_}
+use native.Mathlib.Omega.{arith}
 use borrow.Author.Tests.{ne-eqb}
-use lib.Dec.{T, leb}
+use lib.Dec.{T, T-not, leb→le}
 use Rattle.roles.specs.Sets.{allBelow, Below, partOf}
 use Rattle.roles.proofs.Laws.{partOf-allBelow}
 use Rattle.meaning.specs.declared.Happening.{Happening}
@@ -16,25 +17,24 @@ use Rattle.area.specs.Layout.{goodBytes}
 use Rattle.area.specs.State.{State, GoodState, rowFor, stateOf, areaOf}
 use Rattle.area.proofs.Bytes.{area-good, area-state}
 use Rattle.calls.specs.Calls.{Out, valid, replied, replyOf, decideOf}
-use Rattle.calls.specs.Histories.{Call, reply, update, ask, forget, outOf, lengthened, trailAfter, History, next, history}
+use Rattle.calls.specs.Histories.{Call, opening, reply, update, ask, forget, outOf, trailOn, trailAfter, rolesAfter, History, next}
 use Rattle.calls.specs.Demands as demands
-use Rattle.calls.proofs.CallLaws.{decide-no-permission, decide-unknown}
+use Rattle.calls.proofs.CallLaws.{valid-law, decide-no-permission, decide-unknown}
 use Rattle.calls.proofs.Outcomes.{area-is-good, decide-on}
-use Rattle.calls.proofs.Invariant.{Holds, next-holds, history-holds}
-use Rattle.calls.proofs.Grounds as grounds
+use Rattle.calls.proofs.Invariant.{Holds, next-holds, begun-holds}
+use Rattle.calls.proofs.Grounds.{unknown-reply, demand-1}
 
 -- what decide answers on an area that holds
-decided : (n : ℕ) (h : History) (k : Holds n h) (p s : ℕ) → T (valid p) → Below n s → decideOf (h .area) p s .answer ≡ decide (rowAfter blank (h .trail p)) s
-decided n h k p s v b =
+decided : (h : History) (k : Holds h) (p s : ℕ) → T (valid p) → Below (h .roles) s → decideOf (h .area) p s .answer ≡ decide (rowAfter blank (h .trail p)) s
+decided h k p s v b =
     ap (λ (l : List ℕ). decideOf l p s .answer) (k .area)
     ∙ ap (λ (o : Out). o .answer) (decide-on (k .state) (k .good) p s v (partOf-allBelow (k .state .roles) s .1 (subst⁻¹ (λ (m : ℕ). Below m s) (k .roles) b)))
     ∙ ap (λ (w : Row). decide w s) (k .rows p)
 
 pub demand-2 : demands.Demand2
-demand-2 l n cs o p s v b =
-    let k = history-holds l n cs o in
-    let h = history l n cs in
-    subst⁻¹ (Decides (Possible n (h .trail p)) s) (decided n h k p s v b) (row-decides n (h .trail p) (k .trail-recorded p) s b)
+demand-2 h g p s v b =
+    let k = begun-holds g in
+    subst⁻¹ (Decides (Possible (h .roles) (h .trail p)) s) (decided h k p s v b) (row-decides (h .roles) (h .trail p) (k .trail-recorded p) s b)
 
 -- what decide answers hangs on the role count, the permission's row and the session alone
 decide-by : (s : State) → GoodState s → (q x : ℕ) → decideOf (areaOf s) q x .answer ≡ cond (not (valid q)) 3 (cond (not (partOf x (allBelow (s .roles)))) 4 (decide (rowFor q (s .rows)) x))
@@ -45,42 +45,39 @@ decide-by s g q x = go (valid q) refl (partOf x (allBelow (s .roles))) refl
     go true v false k = ap (λ (o : Out). o .answer) (decide-unknown (areaOf s) q x (area-is-good s g) v (ap (λ (u : State). partOf x (allBelow (u .roles))) (area-state s g) ∙ k))
     go true v true k = ap (λ (o : Out). o .answer) (decide-on s g q x (subst⁻¹ T v tt) (subst⁻¹ T k tt))
 
-trail-other : (c : Call) (q a : ℕ) (t : List Happening) → demands.about c ≢ q → trailAfter q c a t ≡ t
-unfolding trailAfter lengthened
-trail-other (reply p v s) q a t d = rw (ne-eqb p q d)
-trail-other (update p k r) q a t d = rw (ne-eqb p q d)
-trail-other (ask p s) q a t d = refl
-trail-other (forget p) q a t d = rw (ne-eqb p q d)
+pub other-stays : (c : Call) (q a n : ℕ) (t : List Happening) → ¬ (demands.About q c) → (rolesAfter c a n ≡ n) × (trailAfter q c a t ≡ t)
+unfolding rolesAfter trailAfter trailOn
+other-stays (opening m) q a n t d = absurd (d tt)
+other-stays (reply p v s) q a n t d = (refl, rw (ne-eqb p q d))
+other-stays (update p k r) q a n t d = (refl, rw (ne-eqb p q d))
+other-stays (ask p s) q a n t d = (refl, refl)
+other-stays (forget p) q a n t d = (refl, rw (ne-eqb p q d))
 
 pub no-other : demands.NoOther
 unfolding next
-no-other l n cs o c q s d =
-    let h : History = history l n cs in
-    let k = history-holds l n cs o in
-    let k′ = next-holds n h k c in
-    let rs : rowFor q (k′ .state .rows) ≡ rowFor q (k .state .rows) = k′ .rows q ∙ ap (rowAfter blank) (trail-other c q (outOf c (h .area) .answer) (h .trail q) d) ∙ sym (k .rows q) in
-    let ns : k′ .state .roles ≡ k .state .roles = k′ .roles ∙ sym (k .roles) in
+no-other h g c q s d =
+    let k = begun-holds g in
+    let k′ = next-holds h k c in
+    let o = other-stays c q (outOf c (h .area) .answer) (h .roles) (h .trail q) d in
+    let rs : rowFor q (k′ .state .rows) ≡ rowFor q (k .state .rows) = k′ .rows q ∙ ap (rowAfter blank) (o .1) ∙ sym (k .rows q) in
+    let ns : k′ .state .roles ≡ k .state .roles = k′ .roles ∙ o .0 ∙ sym (k .roles) in
     ap (λ (x : List ℕ). decideOf x q s .answer) (k′ .area)
     ∙ decide-by (k′ .state) (k′ .good) q s
     ∙ ap₂ {C = ℕ} (λ (m : ℕ) (w : Row). cond (not (valid q)) 3 (cond (not (partOf s (allBelow m))) 4 (decide w s))) ns rs
     ∙ sym (decide-by (k .state) (k .good) q s)
     ∙ sym (ap (λ (x : List ℕ). decideOf x q s .answer) (k .area))
 
-not-not : (b : Bool) → T b → T (not (not b))
-not-not true t = tt
-not-not false t = t
-
 -- demand 1 has 6 exactly on a contradiction with the row that the area holds
 pub contradicted : demands.Contradicted
-contradicted l n cs o p v s ok b kn =
-    let k = history-holds l n cs o in
-    let a : List ℕ = history l n cs .area in
-    let t : List Happening = history l n cs .trail p in
+contradicted h g p v s ok b kn =
+    let k = begun-holds g in
+    let a : List ℕ = h .area in
+    let t : List Happening = h .trail p in
     let e : Happening = replied v s in
     let st : stateOf a ≡ k .state = ap stateOf (k .area) ∙ area-state (k .state) (k .good) in
     let good : T (goodBytes a) = subst⁻¹ (λ (x : List ℕ). T (goodBytes x)) (k .area) (area-good (k .state) (k .good)) in
-    let kn′ : T (known (stateOf a .roles) e) = subst⁻¹ (λ (m : ℕ). T (known m e)) (ap (λ (x : State). x .roles) st ∙ k .roles) kn in
+    let below : ¬ (2 ^ stateOf a .roles ≤ s) = λ u. T-not (known (h .roles) (replied v s)) (unknown-reply (h .roles) v s .1 (subst (λ (m : ℕ). 2 ^ m ≤ s) (ap (λ (x : State). x .roles) st ∙ k .roles) u)) kn in
     let row : rowFor p (stateOf a .rows) ≡ rowAfter blank t = ap (λ (x : State). rowFor p (x .rows)) st ∙ k .rows p in
     let six : (replyOf a p v s .answer ≡ 6) ↔ T (contradicts e (rowFor p (stateOf a .rows))) =
-    grounds.demand-1 .reply-answers a p v s .exactly .1 (not-not (goodBytes a) good) .1 (not-not (valid p) ok) .1 (not-not (leb v 1) b) .1 (not-not (known (stateOf a .roles) e) kn′) .0 in
-    Iff·trans (subst (λ (w : Row). (replyOf a p v s .answer ≡ 6) ↔ T (contradicts e w)) row six) (trail-contradicts n t (k .trail-recorded p) e kn)
+    demand-1 .reply-answers a p v s .exactly .1 (λ u. u good) .1 (λ u. u (valid-law p .0 ok)) .1 (λ u. let w : v ≤ 1 = leb→le v 1 b in omega arith) .1 below .0 in
+    Iff·trans (subst (λ (w : Row). (replyOf a p v s .answer ≡ 6) ↔ T (contradicts e w)) row six) (trail-contradicts (h .roles) t (k .trail-recorded p) e kn)

@@ -1,13 +1,24 @@
 -- The demands hold: each theorem with its name. Assumes nothing.
 use Rattle.calls.specs.Demands as demands
+use Rattle.calls.specs.Readings.{Readings}
 use Rattle.calls.proofs.Grounds as grounds
+use Rattle.calls.proofs.Forgetting as forgets
+use Rattle.calls.proofs.Streams as streams
 use Rattle.calls.proofs.Decisions as decisions
+use Rattle.calls.proofs.Full as fullness
+use Rattle.calls.proofs.Others as other-calls
 use Rattle.calls.proofs.Areas as areas
-use Rattle.calls.proofs.AreaReadings as area-readings
+use Rattle.calls.proofs.Readings as read
 use Rattle.calls.proofs.Numbers as numbers
 
 pub demand-1 : demands.Demand1
 demand-1 = grounds.demand-1
+
+pub forgetting : demands.Forgetting
+forgetting = forgets.forgetting
+
+pub kinds : demands.Kinds
+kinds = streams.kinds
 
 pub demand-2 : demands.Demand2
 demand-2 = decisions.demand-2
@@ -18,6 +29,12 @@ no-other = decisions.no-other
 pub contradicted : demands.Contradicted
 contradicted = decisions.contradicted
 
+pub full : demands.Full
+full = fullness.full
+
+pub others : demands.Others
+others = other-calls.others
+
 pub demand-3 : demands.Demand3
 demand-3 = areas.demand-3
 
@@ -27,5 +44,5 @@ reordered = areas.reordered
 pub one-outcome : demands.OneOutcome
 one-outcome = numbers.one-outcome
 
-pub readings : demands.Readings
-readings = area-readings.readings
+pub readings : Readings
+readings = read.readings

@@ -1,101 +1,170 @@
 -- Demand 1: each answer exactly on its ground. Assumes nothing.
-use mathlib.Core.Path.{_≡_, refl, sym, _∙_}
-use mathlib.Core.Bool.{Bool, true, false, not, cond, _&&_}
+use mathlib.Core.Path.{_≡_, refl, _∙_, subst⁻¹}
+use mathlib.Core.Bool.{Bool, true, false, not, cond, _&&_, _||_}
 use mathlib.Core.List.{List, [], _∷_}
-use mathlib.Core.Logic.{_≢_, inl, inr, ⊎-elim}
-use Prim.Native.Nat.{ℕ}
-use lib.Dec.{T, eqb, leb}
+use mathlib.Core.Logic.{_↔_, _≢_, inl, inr, ⊎-elim}
+use Prim.Native.Nat.{ℕ, _^_, _≤_, _<_}
+use native.Mathlib.Omega.{arith}
+use borrow.Author.Tests.{eq-eqb, ne-eqb}
+use lib.Dec.{T, T-not, not-T, eqb, leb, eqb→eq, leb→le, le→leb}
 use lib.ListN.{length}
-use Rattle.roles.specs.Sets.{allBelow, partOf, mostRoles}
-use Rattle.roles.proofs.Tests.{T-and, unlike}
+use Rattle.roles.specs.Sets.{single, allBelow, partOf, mostRoles}
+use Rattle.roles.proofs.Tests.{T?, T-and, T-true, T-false}
+use Rattle.roles.proofs.Laws.{partOf-allBelow, single-below, below-single}
+use Rattle.refusals.specs.Refusals.{Refusal, refusal, refuse, Ground, ground}
+use Rattle.refusals.proofs.Laws.{lacks, distinct, Tests, refuse-has, refuse-exactly}
 use Rattle.meaning.specs.declared.Happening.{Happening}
 use Rattle.meaning.specs.declared.Happening.the-variants.{Allow, Deny, Given, Withdrawn}
-use Rattle.meaning.specs.Events.{known, Verdict, isReply}
-use Rattle.meaning.specs.Rows.{Row, blank, hasPart, contradicts, step, decide}
-use Rattle.area.specs.Layout.{areaBytes, goodBytes}
-use Rattle.area.specs.State.{State, rowFor, withRow, stateOf}
-use Rattle.calls.specs.Calls.{Out, stays, holds, valid, fitsIn, eventOn, replied, updated, onArea, openOf, replyOf, updateOf, decideOf, forgetOf}
-use Rattle.calls.specs.Demands.{Ground, Exactly, OnGrounds, IsRecorded, ground, areaGrounds, Demand1}
+use Rattle.meaning.specs.Events.{rolesIn, known, Verdict, isReply}
+use Rattle.meaning.specs.Rows.{Row, blank, hasPart, contradicts, step, fits, decide}
+use Rattle.meaning.proofs.Answers.{fits-law}
+use Rattle.area.specs.Layout.{mostRows, areaBytes, goodBytes}
+use Rattle.area.specs.State.{State, opened, isBlank, rowFor, withRow, stateOf}
+use Rattle.calls.specs.Calls.{Out, stays, writes, valid, fitsIn, openRefusals, areaRefusals, eventRefusals, noRoom, afterRefusal, eventOn, replied, updated, eventFor, openOf, decideOf, forgetOf}
+use Rattle.calls.specs.Demands.{OnGrounds, IsRecorded, areaGrounds, NoPlace, eventGrounds, Demand1}
+use Rattle.calls.proofs.CallLaws.{valid-law, fitsIn-law, fitsIn-over, fitsIn-blank, fitsIn-room, reply-is, update-is}
 use Rattle.calls.proofs.Outcomes.{decide-stays}
 
--- ---- a ladder of refusals
+-- ---- what the tests say
 
--- no number of the list is a
-abbrev lacks : ℕ → List ℕ → Bool
-lacks a [] = true
-lacks a (b ∷ l) = not (eqb b a) && lacks a l
+not-test : (b : Bool) (A : Type 0) → T b ↔ A → T (not b) ↔ ¬ A
+not-test b A i = ((λ t x. T-not b t (i .1 x)), λ h. not-T b (λ t. h (i .0 t)))
 
-different : (a b : ℕ) → T (not (eqb a b)) → a ≢ b
-different a b t e = unlike t e
+over : (a b : ℕ) (t : Bool) → T t ↔ (a < b) → T (not t) ↔ (b ≤ a)
+over a b t i = ((λ u. let h : ¬ (a < b) = not-test t (a < b) i .0 u in omega (arith, h)), λ h. not-T t (λ u. let k : a < b = i .0 u in omega arith))
 
-module _ (l : List ℕ) (R : ℕ → Type 0) where
-  -- what stands on a rung of a ladder: its answers are among ns, each exactly on its ground
-  record Rung (o : Out) (ns : List ℕ) (gs : List Ground) : Type 0 where
-    exactly : Exactly (o .answer) gs R
-    unchanged : o .answer ≢ 0 → o .answer ≢ 8 → o .area ≡ l
-    among : (a : ℕ) → T (lacks a ns) → o .answer ≢ a
+among : (a b n : ℕ) → T (leb a n && leb n b) ↔ ((a ≤ n) × (n ≤ b))
+among a b n = (
+  (λ t. let q = T-and (leb a n) (leb n b) .0 t in (leb→le a n (q .0), leb→le n b (q .1))),
+  λ h. T-and (leb a n) (leb n b) .1 (le→leb a n (h .0), le→leb n b (h .1)),
+)
 
-  -- the last rung
-  bottom : (o : Out) → R (o .answer) → (o .answer ≢ 0 → o .answer ≢ 8 → o .area ≡ l) → Rung o (o .answer ∷ []) []
-  bottom o r u = record {
-    exactly = r;
-    unchanged = u;
-    among = λ a t. different (o .answer) a (T-and (not (eqb (o .answer) a)) true .0 t .0);
+two-kinds : (v : ℕ) → T (not (leb v 1)) ↔ (1 < v)
+two-kinds v = ((λ t. let h : ¬ (v ≤ 1) = λ k. T-not (leb v 1) t (le→leb v 1 k) in omega (arith, h)), λ h. not-T (leb v 1) (λ t. let k : v ≤ 1 = leb→le v 1 t in omega arith))
+
+unknown-set : (n s : ℕ) → T (not (partOf s (allBelow n))) ↔ (2 ^ n ≤ s)
+unknown-set n s = over s (2 ^ n) (partOf s (allBelow n)) (partOf-allBelow n s)
+
+unknown-role : (n r : ℕ) → T (not (partOf (single r) (allBelow n))) ↔ (n ≤ r)
+unknown-role n r = over r n (partOf (single r) (allBelow n)) ((λ t. below-single n r (partOf-allBelow n (single r) .0 t)), λ h. partOf-allBelow n (single r) .1 (single-below n r h))
+
+roles-replied : (v s : ℕ) → rolesIn (replied v s) ≡ s
+unfolding rolesIn
+roles-replied v s = go (eqb v 1)
+  where
+    go : (b : Bool) → rolesIn (cond b (Allow (record { bits = s })) (Deny (record { bits = s }))) ≡ s
+    go true = refl
+    go false = refl
+
+roles-updated : (k r : ℕ) → rolesIn (updated k r) ≡ single r
+unfolding rolesIn
+roles-updated k r = go (eqb k 1)
+  where
+    go : (b : Bool) → rolesIn (cond b (Given r) (Withdrawn r)) ≡ single r
+    go true = refl
+    go false = refl
+
+pub unknown-reply : (n v s : ℕ) → T (not (known n (replied v s))) ↔ (2 ^ n ≤ s)
+unfolding known
+unknown-reply n v s = rw (roles-replied v s) (unknown-set n s)
+
+unknown-update : (n k r : ℕ) → T (not (known n (updated k r))) ↔ (n ≤ r)
+unfolding known
+unknown-update n k r = rw (roles-updated k r) (unknown-role n r)
+
+module _ (s : State) (p : ℕ) (w : Row) where
+  -- where a row that is not too long has no place, it would be a new one, and 128 are used
+  pub new-row : fits w ≡ true → ¬ (fitsIn s p w ≡ true) → (isBlank (rowFor p (s .rows)) ≡ true) × (isBlank w ≡ false) × (128 ≤ length (s .rows))
+  new-row f unfit = (
+    ⊎-elim (T-true (isBlank (rowFor p (s .rows)))) (λ r. absurd (unfit (fitsIn-over s p w f (T-false (isBlank (rowFor p (s .rows))) r)))) (T? (isBlank (rowFor p (s .rows)))),
+    ⊎-elim (λ b. absurd (unfit (fitsIn-blank s p w f (T-true (isBlank w) b)))) (T-false (isBlank w)) (T? (isBlank w)),
+    (let h : ¬ (length (s .rows) < mostRows) = λ k. unfit (fitsIn-room s p w f k) in omega (arith, h)),
+  )
+
+  no-place : T (not (fitsIn s p w)) ↔ NoPlace s p w
+  no-place = (
+    (λ t. ⊎-elim
+        (λ f. inr (new-row (T-true (fits w) f) (λ e. T-not (fitsIn s p w) t (subst⁻¹ T e tt))))
+        (λ f. inl (let h : ¬ (length (w .opens) ≤ 15) = λ k. T-not (fits w) f (fits-law w .1 k) in omega (arith, h)))
+        (T? (fits w))),
+    λ n. not-T (fitsIn s p w) (λ t.
+        let q = fitsIn-law s p w t in
+        ⊎-elim
+        (λ h. let k : length (w .opens) ≤ 15 = fits-law w .0 (q .0) in omega arith)
+        (λ h. let k : length (s .rows) < mostRows = q .1 (h .0) (h .1) in let m : 128 ≤ length (s .rows) = h .2 in omega arith)
+        n),
+  )
+
+-- ---- each call: its answer exactly on its ground, and the bytes left alone
+
+module _ (l : List ℕ) (f : ℕ → Out) (says : (a : ℕ) → f a .answer ≡ a) (leaves : (a : ℕ) → a ≢ 8 → f a .area ≡ l) (R : ℕ → Type 0) where
+  on-grounds : (o : Out) → R (o .answer) → (o .answer ≢ 0 → o .answer ≢ 8 → o .area ≡ l) → (rs : List Refusal) (gs : List Ground) → Tests rs gs → T (distinct rs) → T (lacks (o .answer) rs)
+      → OnGrounds l (refuse rs f o) gs R
+  on-grounds o r u rs gs t d k = record {
+    exactly = refuse-exactly f o (λ x. x .answer) says R rs gs t d k r;
+    unchanged = refuse-has f o (λ x. x .answer ≢ 0 → x .answer ≢ 8 → x .area ≡ l) rs (λ a x y. leaves a (λ z. y (says a ∙ z))) u;
   }
 
-  -- one refusal more in front; an 8 has another area
-  rung-by : (b : Bool) (a : ℕ) (x o : Out) (ns : List ℕ) (gs : List Ground) → T (lacks a ns) → x .answer ≡ a → (a ≢ 8 → x .area ≡ l) → Rung o ns gs
-      → Rung (cond b x o) (a ∷ ns) (ground a b ∷ gs)
-  rung-by true a x o ns gs n e u r = record {
-    exactly = (((λ q. tt), (λ t. e)), (λ t. absurd t));
-    unchanged = λ p q. u (λ z. q (e ∙ z));
-    among = λ c t q. different a c (T-and (not (eqb a c)) (lacks c ns) .0 t .0) (sym e ∙ q);
-  }
-  rung-by false a x o ns gs n e u r = record {
-    exactly = (((λ q. absurd (r .among a n q)), (λ t. absurd t)), (λ t. r .exactly));
-    unchanged = r .unchanged;
-    among = λ c t. r .among c (T-and (not (eqb a c)) (lacks c ns) .0 t .1);
-  }
+recorded : (l : List ℕ) (s : State) → writes 0 s .answer ≢ 0 → writes 0 s .answer ≢ 8 → writes 0 s .area ≡ l
+recorded l s x y = absurd (x refl)
 
-  rung : (b : Bool) (a : ℕ) (o : Out) (ns : List ℕ) (gs : List Ground) → T (lacks a ns) → Rung o ns gs → Rung (cond b (stays a l) o) (a ∷ ns) (ground a b ∷ gs)
-  rung b a o ns gs n = rung-by b a (stays a l) o ns gs n refl (λ q. refl)
+area-tests : (l : List ℕ) (p : ℕ) (rs : List Refusal) (gs : List Ground) → Tests rs gs → Tests (areaRefusals l p rs) (areaGrounds l p gs)
+area-tests l p rs gs t = (refl, not-test (goodBytes l) (T (goodBytes l)) ((λ x. x), (λ x. x)), (refl, not-test (valid p) _ (valid-law p), t))
 
-  answers : (o : Out) (ns : List ℕ) (gs : List Ground) → Rung o ns gs → OnGrounds l o gs R
-  answers o ns gs r = record { exactly = r .exactly; unchanged = r .unchanged }
+-- an event that came in with the verdict or the kind v
+module _ (l : List ℕ) (p v : ℕ) (e : Happening) (unknown : Type 0) (k : T (not (known (stateOf l .roles) e)) ↔ unknown) where
+  abbrev s : State
+  s = stateOf l
 
-zero-bottom : (l : List ℕ) (s : State) → Rung l IsRecorded (holds 0 s) (0 ∷ []) []
-zero-bottom l s = bottom l IsRecorded (holds 0 s) refl (λ p q. absurd (p refl))
+  abbrev w : Row
+  w = rowFor p (stateOf l .rows)
 
--- ---- the calls
+  after-says : (a : ℕ) → afterRefusal l s p a .answer ≡ a
+  after-says a = go (eqb a 8)
+    where
+      go : (b : Bool) → cond b (writes a (withRow s p blank)) (stays a l) .answer ≡ a
+      go true = refl
+      go false = refl
 
-module _ (l : List ℕ) (p : ℕ) where
-  -- bad area and no permission in front
-  on-area : (R : ℕ → Type 0) (o : Out) (ns : List ℕ) (gs : List Ground) → T (lacks 1 ns) → T (lacks 3 ns) → Rung l R o ns gs → Rung l R (onArea l p o) (1 ∷ 3 ∷ ns) (areaGrounds l p gs)
-  unfolding onArea
-  on-area R o ns gs a b r = rung l R (not (goodBytes l)) 1 _ (3 ∷ ns) _ a (rung l R (not (valid p)) 3 o ns gs b r)
+  after-leaves : (a : ℕ) → a ≢ 8 → afterRefusal l s p a .area ≡ l
+  after-leaves a d = rw (ne-eqb a 8 d)
 
-  -- what does not fit is 7 for a reply and 8 for an update
-  module _ (e : Happening) where
-    event : (a : ℕ) → T (lacks 4 (6 ∷ a ∷ 0 ∷ [])) → T (lacks 6 (a ∷ 0 ∷ [])) → T (lacks a (0 ∷ []))
-        → cond (isReply e) (stays 7 l) (holds 8 (withRow (stateOf l) p blank)) .answer ≡ a
-        → (a ≢ 8 → cond (isReply e) (stays 7 l) (holds 8 (withRow (stateOf l) p blank)) .area ≡ l)
-        → Rung l IsRecorded (eventOn l (stateOf l) p e (rowFor p (stateOf l .rows))) (4 ∷ 6 ∷ a ∷ 0 ∷ [])
-        (ground 4 (not (known (stateOf l .roles) e)) ∷ ground 6 (contradicts e (rowFor p (stateOf l .rows))) ∷ ground a (not (fitsIn (stateOf l) p (step e (rowFor p (stateOf l .rows))))) ∷ [])
-    unfolding eventOn
-    event a x y z q u =
-        let w = rowFor p (stateOf l .rows) in
-        rung l IsRecorded (not (known (stateOf l .roles) e)) 4 _ (6 ∷ a ∷ 0 ∷ []) _ x
-        (rung l IsRecorded (contradicts e w) 6 _ (a ∷ 0 ∷ []) _ y
-        (rung-by l IsRecorded (not (fitsIn (stateOf l) p (step e w))) a _ _ (0 ∷ []) [] z q u (zero-bottom l (withRow (stateOf l) p (step e w)))))
+  -- behind bad area and no permission
+  abbrev own : List Refusal
+  own = refusal 5 (not (leb v 1)) ∷ eventRefusals (stateOf l) p e (rowFor p (stateOf l .rows))
 
-reply-kind : (v s : ℕ) → isReply (replied v s) ≡ true
+  abbrev own-grounds : ℕ → List Ground
+  own-grounds b = ground 5 (1 < v) ∷ ground 4 unknown ∷ ground 6 (T (contradicts e w)) ∷ ground b (NoPlace s p (step e w)) ∷ []
+
+  -- b is 7 for a reply and 8 for an update
+  event-answers : (b : ℕ) → noRoom e ≡ b → OnGrounds l (eventFor l p v e) (eventGrounds l p v e unknown b) IsRecorded
+  unfolding eventFor eventOn
+  event-answers b z =
+      on-grounds l (afterRefusal l s p) after-says after-leaves IsRecorded (writes 0 (withRow s p (step e w))) refl (recorded l (withRow s p (step e w)))
+      (areaRefusals l p own) (areaGrounds l p (own-grounds b))
+      (area-tests l p own (own-grounds b) (refl, two-kinds v, (refl, k, (refl, ((λ x. x), (λ x. x)), (z, no-place s p (step e w), tt)))))
+      (all-distinct (isReply e)) (none-zero (isReply e))
+    where
+      -- whether it is 7 or 8, no other refusal has the number
+      of : (b : Bool) → List Refusal
+      of b = areaRefusals l p (refusal 5 true ∷ refusal 4 true ∷ refusal 6 true ∷ refusal (cond b 7 8) true ∷ [])
+
+      all-distinct : (b : Bool) → T (distinct (of b))
+      all-distinct true = tt
+      all-distinct false = tt
+
+      none-zero : (b : Bool) → T (lacks 0 (of b))
+      none-zero true = tt
+      none-zero false = tt
+
+pub reply-kind : (v s : ℕ) → isReply (replied v s) ≡ true
 reply-kind v s = go (eqb v 1)
   where
     go : (b : Bool) → isReply (cond b (Allow (record { bits = s })) (Deny (record { bits = s }))) ≡ true
     go true = refl
     go false = refl
 
-update-kind : (k r : ℕ) → isReply (updated k r) ≡ false
+pub update-kind : (k r : ℕ) → isReply (updated k r) ≡ false
 update-kind k r = go (eqb k 1)
   where
     go : (b : Bool) → isReply (cond b (Given r) (Withdrawn r)) ≡ false
@@ -111,28 +180,37 @@ verdict-is w s = go (partOf s (w .denied)) (hasPart s (w .opens))
     go false true = inr (inl refl)
     go false false = inr (inr refl)
 
--- a verdict is no refusal
-verdict-not : (a b : ℕ) → Verdict a → T (lacks b (10 ∷ 11 ∷ 12 ∷ [])) → a ≢ b
-verdict-not a b v t e =
-    let p = T-and (not (eqb 10 b)) _ .0 t in
-    let q = T-and (not (eqb 11 b)) _ .0 (p .1) in
-    let r = T-and (not (eqb 12 b)) true .0 (q .1) in
-    ⊎-elim (λ x. unlike (p .0) (sym x ∙ e)) (⊎-elim (λ x. unlike (q .0) (sym x ∙ e)) (λ x. unlike (r .0) (sym x ∙ e))) v
+module _ (l : List ℕ) where
+  -- what leaves every byte
+  staying : (R : ℕ → Type 0) (o : Out) → R (o .answer) → (o .answer ≢ 0 → o .answer ≢ 8 → o .area ≡ l) → (rs : List Refusal) (gs : List Ground) → Tests rs gs → T (distinct rs) → T (lacks (o .answer) rs)
+      → OnGrounds l (refuse rs (λ a. stays a l) o) gs R
+  staying = on-grounds l (λ a. stays a l) (λ a. refl) (λ a d. refl)
+
+  decide-answers : (p s : ℕ) → OnGrounds l (decideOf l p s) (areaGrounds l p (ground 4 (2 ^ stateOf l .roles ≤ s) ∷ [])) Verdict
+  unfolding decideOf
+  decide-answers p s =
+      let a = decide (rowFor p (stateOf l .rows)) s in
+      let v = verdict-is (rowFor p (stateOf l .rows)) s in
+      let own : List Refusal = refusal 4 (not (partOf s (allBelow (stateOf l .roles)))) ∷ [] in
+      let own-grounds : List Ground = ground 4 (2 ^ stateOf l .roles ≤ s) ∷ [] in
+      staying Verdict (stays a l) v (λ x y. refl) (areaRefusals l p own) (areaGrounds l p own-grounds)
+      (area-tests l p own own-grounds (refl, unknown-set (stateOf l .roles) s, tt)) tt
+      (⊎-elim (λ e. rw e tt) (⊎-elim (λ e. rw e tt) (λ e. rw e tt)) v)
 
 pub demand-1 : Demand1
-unfolding openOf replyOf updateOf decideOf forgetOf
+unfolding openOf forgetOf
 demand-1 = record {
-  open-answers = λ l n. answers l IsRecorded _ (1 ∷ 2 ∷ 0 ∷ []) _
-      (rung l IsRecorded (not (eqb (length l) areaBytes)) 1 _ (2 ∷ 0 ∷ []) _ tt (rung l IsRecorded (not (leb 1 n && leb n mostRoles)) 2 _ (0 ∷ []) [] tt (zero-bottom l (record { roles = n; rows = [] }))));
-  reply-answers = λ l p v s. answers l IsRecorded _ (1 ∷ 3 ∷ 5 ∷ 4 ∷ 6 ∷ 7 ∷ 0 ∷ []) _ (on-area l p IsRecorded _ (5 ∷ 4 ∷ 6 ∷ 7 ∷ 0 ∷ []) _ tt tt
-      (rung l IsRecorded (not (leb v 1)) 5 _ (4 ∷ 6 ∷ 7 ∷ 0 ∷ []) _ tt (event l p (replied v s) 7 tt tt tt (rw (reply-kind v s)) (λ q. rw (reply-kind v s)))));
-  update-answers = λ l p k r. answers l IsRecorded _ (1 ∷ 3 ∷ 5 ∷ 4 ∷ 6 ∷ 8 ∷ 0 ∷ []) _ (on-area l p IsRecorded _ (5 ∷ 4 ∷ 6 ∷ 8 ∷ 0 ∷ []) _ tt tt
-      (rung l IsRecorded (not (leb k 1)) 5 _ (4 ∷ 6 ∷ 8 ∷ 0 ∷ []) _ tt (event l p (updated k r) 8 tt tt tt (rw (update-kind k r)) (λ q. absurd (q refl)))));
-  decide-answers = λ l p s.
-      let a = decide (rowFor p (stateOf l .rows)) s in
-      answers l Verdict _ (1 ∷ 3 ∷ 4 ∷ 10 ∷ 11 ∷ 12 ∷ []) _ (on-area l p Verdict _ (4 ∷ 10 ∷ 11 ∷ 12 ∷ []) _ tt tt
-      (rung l Verdict (not (partOf s (allBelow (stateOf l .roles)))) 4 _ (10 ∷ 11 ∷ 12 ∷ []) [] tt
-      (record { exactly = verdict-is (rowFor p (stateOf l .rows)) s; unchanged = λ x y. refl; among = λ b. verdict-not a b (verdict-is (rowFor p (stateOf l .rows)) s) })));
+  open-answers = λ l n. staying l IsRecorded (writes 0 (opened n)) refl (recorded l (opened n)) (openRefusals l n) _ (
+    refl,
+    not-test (eqb (length l) areaBytes) (length l ≡ areaBytes) (eqb→eq (length l) areaBytes, (λ e. subst⁻¹ T (eq-eqb (length l) areaBytes e) tt)),
+    (refl, not-test (leb 1 n && leb n mostRoles) _ (among 1 mostRoles n), tt),
+  ) tt tt;
+  reply-answers = λ l p v s. subst⁻¹ (λ (o : Out). OnGrounds l o (eventGrounds l p v (replied v s) (2 ^ stateOf l .roles ≤ s) 7) IsRecorded) (reply-is l p v s)
+      (event-answers l p v (replied v s) _ (unknown-reply (stateOf l .roles) v s) 7 (rw (reply-kind v s)));
+  update-answers = λ l p k r. subst⁻¹ (λ (o : Out). OnGrounds l o (eventGrounds l p k (updated k r) (stateOf l .roles ≤ r) 8) IsRecorded) (update-is l p k r)
+      (event-answers l p k (updated k r) _ (unknown-update (stateOf l .roles) k r) 8 (rw (update-kind k r)));
+  decide-answers = decide-answers;
   decide-unchanged = decide-stays;
-  forget-answers = λ l p. answers l IsRecorded _ (1 ∷ 3 ∷ 0 ∷ []) _ (on-area l p IsRecorded _ (0 ∷ []) [] tt tt (zero-bottom l (withRow (stateOf l) p blank)));
+  forget-answers = λ l p. staying l IsRecorded (writes 0 (withRow (stateOf l) p blank)) refl (recorded l (withRow (stateOf l) p blank)) (areaRefusals l p []) _
+      (area-tests l p [] [] tt) tt tt;
 }

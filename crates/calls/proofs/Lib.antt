@@ -1,11 +1,15 @@
 -- The laws of the calls' definitions and of histories, and the demands, gathered in `Demands`.
 pub mod CallLaws
 pub mod Outcomes
-pub mod Invariant
-pub mod Grounds
-pub mod Streams
+mod Invariant
+mod Grounds
+mod Streams
 mod Decisions
+mod Forgetting
+mod Full
+mod Others
 mod Areas
-mod AreaReadings
+mod Positions
+mod Readings
 mod Numbers
 pub mod Demands

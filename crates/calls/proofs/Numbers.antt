@@ -4,7 +4,7 @@ use mathlib.Core.Bool.{cond}
 use Prim.Native.Nat.{ℕ}
 use lib.Dec.{eqb}
 use Rattle.calls.specs.declared.Answer.{Answer}
-use Rattle.calls.specs.declared.Answer.the-variants.{Recorded, BadArea, BadRoleCount, NoPermission, UnknownRole, BadVerdict, Contradiction, Full, Forgotten, Deny, Allow, Undecided}
+use Rattle.calls.specs.declared.Answer.the-variants.{Recorded, BadArea, BadRoleCount, NoPermission, UnknownRole, BadVerdict, Contradiction, Full, Forgotten, Unreadable, Deny, Allow, Undecided}
 use Rattle.calls.specs.Answers.{numberOf}
 use Rattle.calls.specs.Demands as demands
 
@@ -12,7 +12,7 @@ use Rattle.calls.specs.Demands as demands
 answerOf : ℕ → Answer
 answerOf a =
     cond (eqb a 0) Recorded (cond (eqb a 1) BadArea (cond (eqb a 2) BadRoleCount (cond (eqb a 3) NoPermission (cond (eqb a 4) UnknownRole (cond (eqb a 5) BadVerdict
-    (cond (eqb a 6) Contradiction (cond (eqb a 7) Full (cond (eqb a 8) Forgotten (cond (eqb a 10) Deny (cond (eqb a 11) Allow Undecided))))))))))
+    (cond (eqb a 6) Contradiction (cond (eqb a 7) Full (cond (eqb a 8) Forgotten (cond (eqb a 9) Unreadable (cond (eqb a 10) Deny (cond (eqb a 11) Allow Undecided)))))))))))
 
 answer-back : (r : Answer) → answerOf (numberOf r) ≡ r
 unfolding answerOf
@@ -25,6 +25,7 @@ answer-back BadVerdict = refl
 answer-back Contradiction = refl
 answer-back Full = refl
 answer-back Forgotten = refl
+answer-back Unreadable = refl
 answer-back Deny = refl
 answer-back Allow = refl
 answer-back Undecided = refl

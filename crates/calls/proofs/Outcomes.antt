@@ -10,15 +10,15 @@ use Rattle.roles.specs.Sets.{allBelow, partOf}
 use Rattle.roles.proofs.Tests.{T?, T-true, T-false}
 use Rattle.meaning.specs.declared.Happening.{Happening}
 use Rattle.meaning.specs.Events.{known, isReply}
-use Rattle.meaning.specs.Rows.{Row, blank, Good, fits, contradicts, step, settle, decide}
+use Rattle.meaning.specs.Rows.{Row, blank, Good, contradicts, step, settle, decide}
 use Rattle.meaning.proofs.Kept.{step-good}
 use Rattle.meaning.proofs.Answers.{settle-law, fits-law}
 use Rattle.area.specs.Layout.{goodBytes}
 use Rattle.area.specs.State.{State, GoodState, rowFor, withRow, stateOf, areaOf}
 use Rattle.area.proofs.RowLaws.{rowFor-good, put-good, put-most}
 use Rattle.area.proofs.Bytes.{area-good, area-state}
-use Rattle.calls.specs.Calls.{Out, stays, holds, valid, fitsIn, eventOn, eventOf, replied, updated, replyOf, updateOf, decideOf, forgetOf}
-use Rattle.calls.proofs.CallLaws.{valid-law, fitsIn-law, event-unknown, event-contradicts, event-unfit, event-recorded, eventFor, reply-is, update-is, for-no-permission, for-bad-verdict, for-good, decide-bad-area, decide-no-permission, decide-unknown, decide-decides, forget-no-permission, forget-forgets}
+use Rattle.calls.specs.Calls.{Out, stays, writes, valid, fitsIn, eventOn, eventOf, replied, updated, eventFor, replyOf, updateOf, decideOf, forgetOf}
+use Rattle.calls.proofs.CallLaws.{valid-law, fitsIn-law, event-unknown, event-contradicts, event-unfit, event-recorded, reply-is, update-is, for-no-permission, for-bad-verdict, for-good, decide-bad-area, decide-no-permission, decide-unknown, decide-decides, forget-no-permission, forget-forgets}
 
 -- ---- states with another row
 
@@ -53,8 +53,8 @@ module _ (s : State) (g : GoodState s) (p : ℕ) (v : T (valid p)) where
 pub data Outcome (s : State) (p : ℕ) (e : Happening) : Out → Type 0 where
   refused : (a : ℕ) → a ≢ 0 → a ≢ 8 → Outcome s p e (stays a (areaOf s))
   recorded : T (known (s .roles) e) → settle e (rowFor p (s .rows)) .answer ≡ 0 → GoodState (withRow s p (step e (rowFor p (s .rows))))
-      → Outcome s p e (holds 0 (withRow s p (step e (rowFor p (s .rows)))))
-  forgotten : GoodState (withRow s p blank) → Outcome s p e (holds 8 (withRow s p blank))
+      → Outcome s p e (writes 0 (withRow s p (step e (rowFor p (s .rows)))))
+  forgotten : GoodState (withRow s p blank) → Outcome s p e (writes 8 (withRow s p blank))
 
 pub area-is-good : (s : State) → GoodState s → goodBytes (areaOf s) ≡ true
 area-is-good s g = T-true (goodBytes (areaOf s)) (area-good s g)
@@ -66,7 +66,7 @@ module _ (s : State) (g : GoodState s) (p : ℕ) where
       w : Row
       w = rowFor p (s .rows)
 
-      full-or-forgotten : (r : Bool) → Outcome s p e (cond r (stays 7 (areaOf s)) (holds 8 (withRow s p blank)))
+      full-or-forgotten : (r : Bool) → Outcome s p e (cond r (stays 7 (areaOf s)) (writes 8 (withRow s p blank)))
       full-or-forgotten true = refused 7 (λ z. omega arith) (λ z. omega arith)
       full-or-forgotten false = forgotten (drop-state s g p v)
 
@@ -107,10 +107,10 @@ module _ (s : State) (g : GoodState s) (p : ℕ) where
       decide-decides (areaOf s) p t (area-is-good s g) (T-true (valid p) v) (ap (λ (u : State). partOf t (allBelow (u .roles))) st ∙ T-true (partOf t (allBelow (s .roles))) b)
       ∙ ap (λ (u : State). stays (decide (rowFor p (u .rows)) t) (areaOf s)) st
 
-  pub forget-on : (forgetOf (areaOf s) p ≡ stays 3 (areaOf s)) ⊎ (T (valid p) × (forgetOf (areaOf s) p ≡ holds 0 (withRow s p blank)))
+  pub forget-on : (forgetOf (areaOf s) p ≡ stays 3 (areaOf s)) ⊎ (T (valid p) × (forgetOf (areaOf s) p ≡ writes 0 (withRow s p blank)))
   forget-on =
       ⊎-elim
-      (λ v. inr (v, forget-forgets (areaOf s) p (area-is-good s g) (T-true (valid p) v) ∙ ap (λ (u : State). holds 0 (withRow u p blank)) (area-state s g)))
+      (λ v. inr (v, forget-forgets (areaOf s) p (area-is-good s g) (T-true (valid p) v) ∙ ap (λ (u : State). writes 0 (withRow u p blank)) (area-state s g)))
       (λ v. inl (forget-no-permission (areaOf s) p (area-is-good s g) (T-false (valid p) v)))
       (T? (valid p))
 

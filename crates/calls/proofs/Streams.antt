@@ -1,16 +1,34 @@
 -- Streams of events whose replies have changed places say the same of each permission. Assumes nothing.
+--     eventsOf p es     the events of a stream about p
+--     Swapped           the same events of one permission, where neighbouring replies have changed places
+--     Rearranged        two streams with the same events of each permission, up to such changes
 use mathlib.Core.Path.{_≡_, refl, sym, ap, _∙_}
 use mathlib.Core.Bool.{Bool, true, false, cond}
 use mathlib.Core.List.{List, [], _∷_, _++_, append-assoc, append-nil}
 use mathlib.Core.Logic.{_↔_}
 use Prim.Native.Nat.{ℕ}
+use borrow.Author.Tests.{eq-eqb}
 use lib.Dec.{eqb}
 use Rattle.meaning.specs.declared.Event.{Event}
 use Rattle.meaning.specs.declared.Happening.{Happening}
 use Rattle.meaning.specs.declared.Happening.the-variants.{Allow, Deny, Given, Withdrawn}
-use Rattle.meaning.specs.Events.{after, Becomes, Possible}
+use Rattle.meaning.specs.Events.{Reply, after, Becomes, Possible}
 use Rattle.meaning.proofs.Trails.{becomes-swap}
-use Rattle.calls.specs.Histories.{lengthened, trailAfter, History, next, afterAll, callFor, callOf, calls, eventsOf, Swapped, same, first, swap, further, AllRecorded}
+use Rattle.calls.specs.Histories.{Call, outOf, trailOn, trailAfter, rolesAfter, History, next, Begun, going, afterAll, callFor, callOf, calls, AllRecorded}
+use Rattle.calls.specs.Demands as demands
+
+unfoldable pub eventsOf : ℕ → List Event → List Happening
+eventsOf p [] = []
+eventsOf p (e ∷ es) = cond (eqb (e .permission) p) (e .happening ∷ eventsOf p es) (eventsOf p es)
+
+pub data Swapped : List Happening → List Happening → Type 0 where
+  same : {es : List Happening} → Swapped es es
+  first : {es fs : List Happening} (e : Happening) → Swapped es fs → Swapped (e ∷ es) (e ∷ fs)
+  swap : {es : List Happening} (e f : Happening) → Reply e → Reply f → Swapped (e ∷ f ∷ es) (f ∷ e ∷ es)
+  further : {es fs gs : List Happening} → Swapped es fs → Swapped fs gs → Swapped es gs
+
+abbrev pub Rearranged : List Event → List Event → Type 0
+Rearranged es fs = (p : ℕ) → Swapped (eventsOf p es) (eventsOf p fs)
 
 flip : {es fs : List Happening} → Swapped es fs → Swapped fs es
 flip same = same
@@ -30,11 +48,35 @@ swapped-possible r n h = ((λ p. (p .0, p .1, swapped-becomes r (p .0) h (p .2))
 -- ---- where every event is answered 0, the trails are the stream's
 
 trail-call : (q p : ℕ) (e : Happening) (t : List Happening) → trailAfter q (callFor p e) 0 t ≡ cond (eqb p q) (t ++ e ∷ []) t
-unfolding trailAfter callFor lengthened
+unfolding trailAfter callFor trailOn
 trail-call q p (Allow s) t = refl
 trail-call q p (Deny s) t = refl
 trail-call q p (Given r) t = refl
 trail-call q p (Withdrawn r) t = refl
+
+roles-call : (p : ℕ) (e : Happening) (a n : ℕ) → rolesAfter (callFor p e) a n ≡ n
+unfolding rolesAfter callFor
+roles-call p (Allow s) a n = refl
+roles-call p (Deny s) a n = refl
+roles-call p (Given r) a n = refl
+roles-call p (Withdrawn r) a n = refl
+
+pub stream-roles : (es : List Event) (h : History) → afterAll (calls es) h .roles ≡ h .roles
+unfolding afterAll next
+stream-roles [] h = refl
+stream-roles (e ∷ es) h = stream-roles es (next (callOf e) h) ∙ roles-call (e .permission) (e .happening) (outOf (callOf e) (h .area) .answer) (h .roles)
+
+pub all-begun : (cs : List Call) {h : History} → Begun h → Begun (afterAll cs h)
+unfolding afterAll
+all-begun [] g = g
+all-begun (c ∷ cs) g = all-begun cs (going c g)
+
+pub kinds : demands.Kinds
+kinds = record {
+  verdicts = λ s. (refl, refl);
+  kinds = λ r. (refl, refl);
+  calls = λ p e t. trail-call p p e t ∙ ap (λ (b : Bool). cond b (t ++ e ∷ []) t) (eq-eqb p p refl);
+}
 
 pub stream-trail : (es : List Event) (h : History) (q : ℕ) → AllRecorded es (h .area) → afterAll (calls es) h .trail q ≡ h .trail q ++ eventsOf q es
 unfolding afterAll eventsOf next

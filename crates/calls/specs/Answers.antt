@@ -1,12 +1,12 @@
 -- The answers with their numbers, and what a call's contract says.
 --     numberOf r       the number of an answer
---     Gives o r l      the answer r and the bytes l afterwards are those of o; any two such outcomes are equal
+--     Gives o r l      the answer r and the bytes l afterwards are those of o
 use mathlib.Core.Path.{_≡_}
 use mathlib.Core.List.{List}
 use Prim.Native.Nat.{ℕ}
 use Rattle.calls.specs.Calls.{Out}
 use Rattle.calls.specs.declared.Answer.{Answer}
-use Rattle.calls.specs.declared.Answer.the-variants.{Recorded, BadArea, BadRoleCount, NoPermission, UnknownRole, BadVerdict, Contradiction, Full, Forgotten, Deny, Allow, Undecided}
+use Rattle.calls.specs.declared.Answer.the-variants.{Recorded, BadArea, BadRoleCount, NoPermission, UnknownRole, BadVerdict, Contradiction, Full, Forgotten, Unreadable, Deny, Allow, Undecided}
 
 abbrev pub numberOf : Answer → ℕ
 numberOf Recorded = 0
@@ -18,6 +18,7 @@ numberOf BadVerdict = 5
 numberOf Contradiction = 6
 numberOf Full = 7
 numberOf Forgotten = 8
+numberOf Unreadable = 9
 numberOf Deny = 10
 numberOf Allow = 11
 numberOf Undecided = 12

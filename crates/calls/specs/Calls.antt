@@ -1,24 +1,28 @@
--- The calls: what each answers, and the bytes of the lent area after it, as document 01's table reads.
+-- The calls: what each answers, and the bytes of the lent area after it, as the table of Rules, Answers, reads.
 --     Out                   an answer with the bytes afterwards
---     stays a l, holds a s  the answer a, and the bytes l, or those of the state s
+--     stays a l, writes a s the answer a, and the bytes l, or those of the state s
 --     valid p               p is a permission, 1 to 4,294,967,295
 --     fitsIn s p w          w fits as the row of p: at most 15 open sets, and where it would be a new row, fewer than 128 are used
---     eventOn, eventOf      an event on a good area: 4, 6, 7 or 8, 0
+--     openRefusals, areaRefusals, eventRefusals    the refusals of open, those that every other call begins with, those of an event
+--     noRoom e              the answer to an event whose new row does not fit: 7 for a reply, 8 for an update
+--     afterRefusal          what a refused event leaves: 8 takes the permission's row away, the others leave every byte
+--     eventOn, eventOf      an event on a good area
 --     replied, updated      the happening that a reply's or an update's numbers say
---     onArea                the refusals that all calls but open share: 1, 3
+--     eventFor              an event that came in with a verdict or a kind
 --     openOf, replyOf, updateOf, decideOf, forgetOf    the calls, refusals in the order 1, 2, 3, 5, 4, 6, then 7 or 8
 use mathlib.Core.Bool.{Bool, not, cond, _&&_, _||_}
-use mathlib.Core.List.{List, []}
+use mathlib.Core.List.{List, [], _∷_}
 use Prim.Native.Nat.{ℕ}
 use lib.Dec.{eqb, ltb, leb}
 use lib.ListN.{length}
 use Rattle.roles.specs.Sets.{allBelow, partOf, mostRoles}
+use Rattle.refusals.specs.Refusals.{Refusal, refusal, refuse}
 use Rattle.meaning.specs.declared.Happening.{Happening}
 use Rattle.meaning.specs.declared.Happening.the-variants.{Allow, Deny, Given, Withdrawn}
 use Rattle.meaning.specs.Events.{known, isReply, lastPermission}
 use Rattle.meaning.specs.Rows.{Row, blank, fits, contradicts, step, decide}
 use Rattle.area.specs.Layout.{mostRows, areaBytes, goodBytes}
-use Rattle.area.specs.State.{State, isBlank, rowFor, withRow, stateOf, areaOf}
+use Rattle.area.specs.State.{State, opened, isBlank, rowFor, withRow, stateOf, areaOf}
 
 pub record Out : Type 0 where
   pub answer : ℕ
@@ -27,8 +31,8 @@ pub record Out : Type 0 where
 abbrev pub stays : ℕ → List ℕ → Out
 stays a l = record { answer = a; area = l }
 
-abbrev pub holds : ℕ → State → Out
-holds a s = record { answer = a; area = areaOf s }
+abbrev pub writes : ℕ → State → Out
+writes a s = record { answer = a; area = areaOf s }
 
 abbrev pub valid : ℕ → Bool
 valid p = leb 1 p && leb p lastPermission
@@ -36,13 +40,38 @@ valid p = leb 1 p && leb p lastPermission
 unfoldable pub fitsIn : State → ℕ → Row → Bool
 fitsIn s p w = fits w && (ltb (length (s .rows)) mostRows || (not (isBlank (rowFor p (s .rows))) || isBlank w))
 
--- on an area l that holds s, where w is the row of p before the event
+-- ---- opening
+
+abbrev pub openRefusals : List ℕ → ℕ → List Refusal
+openRefusals l n = refusal 1 (not (eqb (length l) areaBytes)) ∷ refusal 2 (not (leb 1 n && leb n mostRoles)) ∷ []
+
+unfoldable pub openOf : List ℕ → ℕ → Out
+openOf l n = refuse (openRefusals l n) (λ a. stays a l) (writes 0 (opened n))
+
+-- ---- the other calls begin with: bad area, no permission
+
+abbrev pub areaRefusals : List ℕ → ℕ → List Refusal → List Refusal
+areaRefusals l p rs = refusal 1 (not (goodBytes l)) ∷ refusal 3 (not (valid p)) ∷ rs
+
+-- ---- events
+
+abbrev pub noRoom : Happening → ℕ
+noRoom e = cond (isReply e) 7 8
+
+-- where w is the row of p before the event
+abbrev pub eventRefusals : State → ℕ → Happening → Row → List Refusal
+eventRefusals s p e w =
+    refusal 4 (not (known (s .roles) e))
+    ∷ refusal 6 (contradicts e w)
+    ∷ refusal (noRoom e) (not (fitsIn s p (step e w)))
+    ∷ []
+
+-- on an area l that holds s
+abbrev pub afterRefusal : List ℕ → State → ℕ → ℕ → Out
+afterRefusal l s p a = cond (eqb a 8) (writes a (withRow s p blank)) (stays a l)
+
 unfoldable pub eventOn : List ℕ → State → ℕ → Happening → Row → Out
-eventOn l s p e w =
-    cond (not (known (s .roles) e)) (stays 4 l)
-    (cond (contradicts e w) (stays 6 l)
-    (cond (not (fitsIn s p (step e w))) (cond (isReply e) (stays 7 l) (holds 8 (withRow s p blank)))
-    (holds 0 (withRow s p (step e w)))))
+eventOn l s p e w = refuse (eventRefusals s p e w) (afterRefusal l s p) (writes 0 (withRow s p (step e w)))
 
 abbrev pub eventOf : List ℕ → ℕ → Happening → Out
 eventOf l p e = eventOn l (stateOf l) p e (rowFor p (stateOf l .rows))
@@ -55,24 +84,21 @@ replied v s = cond (eqb v 1) (Allow (record { bits = s })) (Deny (record { bits 
 abbrev pub updated : ℕ → ℕ → Happening
 updated k r = cond (eqb k 1) (Given r) (Withdrawn r)
 
-unfoldable pub openOf : List ℕ → ℕ → Out
-openOf l n =
-    cond (not (eqb (length l) areaBytes)) (stays 1 l)
-    (cond (not (leb 1 n && leb n mostRoles)) (stays 2 l)
-    (holds 0 (record { roles = n; rows = [] })))
-
--- the refusals that all other calls share, and then o
-unfoldable pub onArea : List ℕ → ℕ → Out → Out
-onArea l p o = cond (not (goodBytes l)) (stays 1 l) (cond (not (valid p)) (stays 3 l) o)
+unfoldable pub eventFor : List ℕ → ℕ → ℕ → Happening → Out
+eventFor l p v e = refuse (areaRefusals l p (refusal 5 (not (leb v 1)) ∷ [])) (λ a. stays a l) (eventOf l p e)
 
 unfoldable pub replyOf : List ℕ → ℕ → ℕ → ℕ → Out
-replyOf l p v s = onArea l p (cond (not (leb v 1)) (stays 5 l) (eventOf l p (replied v s)))
+replyOf l p v s = eventFor l p v (replied v s)
 
 unfoldable pub updateOf : List ℕ → ℕ → ℕ → ℕ → Out
-updateOf l p k r = onArea l p (cond (not (leb k 1)) (stays 5 l) (eventOf l p (updated k r)))
+updateOf l p k r = eventFor l p k (updated k r)
+
+-- ---- decisions and forgetting
 
 unfoldable pub decideOf : List ℕ → ℕ → ℕ → Out
-decideOf l p s = onArea l p (cond (not (partOf s (allBelow (stateOf l .roles)))) (stays 4 l) (stays (decide (rowFor p (stateOf l .rows)) s) l))
+decideOf l p s =
+    refuse (areaRefusals l p (refusal 4 (not (partOf s (allBelow (stateOf l .roles)))) ∷ [])) (λ a. stays a l)
+    (stays (decide (rowFor p (stateOf l .rows)) s) l)
 
 unfoldable pub forgetOf : List ℕ → ℕ → Out
-forgetOf l p = onArea l p (holds 0 (withRow (stateOf l) p blank))
+forgetOf l p = refuse (areaRefusals l p []) (λ a. stays a l) (writes 0 (withRow (stateOf l) p blank))

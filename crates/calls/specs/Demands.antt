@@ -1,116 +1,171 @@
 -- The three demands, as statements about the calls' definitions; `proofs/Demands.antt` proves them.
---     Ground, ground a b     the refusal a with its ground b
---     Exactly                the answer is each number exactly on its ground, in this order
---     OnGrounds              the answer exactly on its ground, and every answer but 0 and 8 leaves the bytes as they came
---     IsRecorded a           a is 0: what is left where no ground holds, as a verdict is for decide
---     openGrounds, areaGrounds, eventGrounds    the grounds of each call, in document 01's order
+--     OnGrounds              the answer is the number of the first ground that holds, and every answer but 0 and 8 leaves the bytes as they came
+--     IsRecorded a           a is 0, as it must be where no ground holds; decide has a verdict there
+--     areaGrounds, eventGrounds    the grounds that all calls but open begin with; those of an event, in the order of Rules, Answers
+--     NoPlace s p w          w does not fit as the row of p
 --     Demand1                any numbers and any bytes get an answer of the table, each refusal exactly on its ground
+--     NoRow l p, Forgetting  p has no row; so it is after 8 and after a forget
+--     Kinds                  what the numbers of a reply and of an update say, and the call by which each event comes in
 --     Demand2                over every history decide says what the possible holder sets of the trail force
---     about c, NoOther       the permission of a call; a call about one never changes a decision about another
---     Demand3                areas reached from opening are equal exactly when they know the same
---     Reordered              areas of rearranged streams, every event answered 0 in both, are equal
+--     About q c              the call c is about the permission q, as opening is about every one
+--     NoOther                a call about one permission never changes a decision about another
 --     Contradicted           over every history 6 exactly when no possible holder set agrees
+--     trailsWith h p e       the trails of h with one event more
+--     Sayable n t            some good area of n roles leaves possible exactly the possible holder sets of the trails t, for each permission
+--     Said n p t a b         a is the answer to an event about p that makes the trails t: 0 exactly when they are sayable, 6 exactly when nothing is
+--                            possible of p, else b
+--     Full                   over every history 7 or 8 exactly when something is possible after the event and no area can say it
+--     NothingKnown, used h   every holder set is possible; how many rows are used
+--     TookRoom p d h k       d is recorded on h and does not fit on k: before it every holder set of p is possible, after it not, and 128 rows are
+--                            used on k alone
+--     Others                 a call about one permission changes an answer about another only so
+--     Demand3                areas reached from opening are equal exactly when they know the same
+--     Reordered              areas of streams in another order, every event answered 0 in both, are equal
 --     OneOutcome             any two outcomes that a call's contract allows are equal
---     Readings               the readings of document 01 marked P, all of them
 use mathlib.Core.Path.{_≡_}
-use mathlib.Core.Bool.{Bool, true, not, _&&_}
-use mathlib.Core.List.{List, [], _∷_}
-use mathlib.Core.Logic.{_↔_, _≢_}
-use Prim.Native.Nat.{ℕ}
-use lib.Dec.{T, eqb, leb}
+use mathlib.Core.Bool.{true, false}
+use mathlib.Core.List.{List, [], _∷_, _++_}
+use mathlib.Core.Logic.{_↔_, _≢_, _⊎_}
+use Prim.Native.Nat.{ℕ, _^_, _≤_, _<_}
+use lib.Dec.{T, leb}
 use lib.ListN.{length}
-use Rattle.roles.specs.Sets.{allBelow, Below, partOf, mostRoles}
+use Rattle.words.specs.Words.{Bytes}
+use Rattle.roles.specs.Sets.{Below}
+use Rattle.roles.specs.declared.RoleSet.{RoleSet}
+use Rattle.refusals.specs.Refusals.{Ground, ground, Exactly}
 use Rattle.meaning.specs.declared.Event.{Event}
 use Rattle.meaning.specs.declared.Happening.{Happening}
-use Rattle.meaning.specs.Events.{known, agrees, Possible, Verdict, Decides}
-use Rattle.meaning.specs.Readings as rows
-use Rattle.meaning.specs.Rows.{contradicts, step}
-use Rattle.area.specs.Layout.{areaBytes, goodBytes}
-use Rattle.area.specs.State.{State, GoodState, isBlank, rowFor, stateOf, areaOf}
-use Rattle.calls.specs.Calls.{Out, stays, valid, fitsIn, replied, updated, openOf, replyOf, updateOf, decideOf, forgetOf}
+use Rattle.meaning.specs.declared.Happening.the-variants.{Allow, Deny, Given, Withdrawn}
+use Rattle.meaning.specs.Events.{known, agrees, HolderSet, Possible, Verdict, Decides}
+use Rattle.meaning.specs.Rows.{Row, Leaves, contradicts, step}
+use Rattle.area.specs.Layout.{goodBytes}
+use Rattle.area.specs.State.{State, GoodState, isBlank, rowFor, stateOf}
+use Rattle.calls.specs.Calls.{Out, valid, replied, updated, openOf, replyOf, updateOf, decideOf, forgetOf}
 use Rattle.calls.specs.declared.Answer.{Answer}
 use Rattle.calls.specs.Answers.{Gives}
-use Rattle.calls.specs.Histories.{Call, reply, update, ask, forget, calls, next, history, Rearranged, AllRecorded}
+use Rattle.calls.specs.Histories.{Call, opening, reply, update, ask, forget, outOf, trailOn, trailAfter, callFor, calls, History, next, history, Begun, Moved, AllRecorded}
 
 -- ---- demand 1: any numbers and any lent bytes get a numbered answer, and answers 1 to 7 leave the lent area as it came
-
-pub record Ground : Type 0 where
-  pub number : ℕ
-  pub holds : Bool
-
-abbrev pub Exactly : ℕ → List Ground → (ℕ → Type 0) → Type 0
-Exactly a [] otherwise = otherwise a
-Exactly a (g ∷ gs) otherwise = ((a ≡ g .number) ↔ T (g .holds)) × (T (not (g .holds)) → Exactly a gs otherwise)
 
 pub record OnGrounds (l : List ℕ) (o : Out) (gs : List Ground) (otherwise : ℕ → Type 0) : Type 0 where
   pub exactly : Exactly (o .answer) gs otherwise
   pub unchanged : o .answer ≢ 0 → o .answer ≢ 8 → o .area ≡ l
 
--- what is left where no ground holds, but for decide
 abbrev pub IsRecorded : ℕ → Type 0
 IsRecorded a = a ≡ 0
 
-abbrev pub ground : ℕ → Bool → Ground
-ground a b = record { number = a; holds = b }
-
-abbrev pub openGrounds : List ℕ → ℕ → List Ground
-openGrounds l n = ground 1 (not (eqb (length l) areaBytes)) ∷ ground 2 (not (leb 1 n && leb n mostRoles)) ∷ []
-
 -- bad area, no permission
 abbrev pub areaGrounds : List ℕ → ℕ → List Ground → List Ground
-areaGrounds l p gs = ground 1 (not (goodBytes l)) ∷ ground 3 (not (valid p)) ∷ gs
+areaGrounds l p gs = ground 1 (¬ (T (goodBytes l))) ∷ ground 3 (¬ ((1 ≤ p) × (p ≤ 4294967295))) ∷ gs
+
+-- more than 15 open sets; or no row before, one afterwards, and 128 in use
+abbrev pub NoPlace : State → ℕ → Row → Type 0
+NoPlace s p w = (15 < length (w .opens)) ⊎ ((isBlank (rowFor p (s .rows)) ≡ true) × (isBlank w ≡ false) × (128 ≤ length (s .rows)))
 
 -- bad verdict or kind, unknown role, contradiction, and last what does not fit
-abbrev pub eventGrounds : List ℕ → ℕ → ℕ → Happening → ℕ → List Ground
-eventGrounds l p v e unfit =
+abbrev pub eventGrounds : List ℕ → ℕ → ℕ → Happening → Type 0 → ℕ → List Ground
+eventGrounds l p v e unknown unfit =
     areaGrounds l p (
-    ground 5 (not (leb v 1))
-    ∷ ground 4 (not (known (stateOf l .roles) e))
-    ∷ ground 6 (contradicts e (rowFor p (stateOf l .rows)))
-    ∷ ground unfit (not (fitsIn (stateOf l) p (step e (rowFor p (stateOf l .rows)))))
+    ground 5 (1 < v)
+    ∷ ground 4 unknown
+    ∷ ground 6 (T (contradicts e (rowFor p (stateOf l .rows))))
+    ∷ ground unfit (NoPlace (stateOf l) p (step e (rowFor p (stateOf l .rows))))
     ∷ []
     )
 
 pub record Demand1 : Type 0 where
-  pub open-answers : (l : List ℕ) (n : ℕ) → OnGrounds l (openOf l n) (openGrounds l n) IsRecorded
-  pub reply-answers : (l : List ℕ) (p v s : ℕ) → OnGrounds l (replyOf l p v s) (eventGrounds l p v (replied v s) 7) IsRecorded
-  pub update-answers : (l : List ℕ) (p k r : ℕ) → OnGrounds l (updateOf l p k r) (eventGrounds l p k (updated k r) 8) IsRecorded
-  pub decide-answers : (l : List ℕ) (p s : ℕ) → OnGrounds l (decideOf l p s) (areaGrounds l p (ground 4 (not (partOf s (allBelow (stateOf l .roles)))) ∷ [])) Verdict
+  pub open-answers : (l : List ℕ) (n : ℕ) → OnGrounds l (openOf l n) (ground 1 (length l ≢ 18448) ∷ ground 2 (¬ ((1 ≤ n) × (n ≤ 64))) ∷ []) IsRecorded
+  pub reply-answers : (l : List ℕ) (p v s : ℕ) → OnGrounds l (replyOf l p v s) (eventGrounds l p v (replied v s) (2 ^ stateOf l .roles ≤ s) 7) IsRecorded
+  pub update-answers : (l : List ℕ) (p k r : ℕ) → OnGrounds l (updateOf l p k r) (eventGrounds l p k (updated k r) (stateOf l .roles ≤ r) 8) IsRecorded
+  pub decide-answers : (l : List ℕ) (p s : ℕ) → OnGrounds l (decideOf l p s) (areaGrounds l p (ground 4 (2 ^ stateOf l .roles ≤ s) ∷ [])) Verdict
   pub decide-unchanged : (l : List ℕ) (p s : ℕ) → decideOf l p s .area ≡ l
   pub forget-answers : (l : List ℕ) (p : ℕ) → OnGrounds l (forgetOf l p) (areaGrounds l p []) IsRecorded
+
+-- p has no row
+abbrev pub NoRow : List ℕ → ℕ → Type 0
+NoRow l p = isBlank (rowFor p (stateOf l .rows)) ≡ true
+
+-- after 8 and after a forget answered 0 the permission has no row; where it had none before, the bytes are as they came
+pub record Forgetting : Type 0 where
+  pub update-gone : (l : List ℕ) (p k r : ℕ) → updateOf l p k r .answer ≡ 8 → NoRow (updateOf l p k r .area) p
+  pub forget-gone : (l : List ℕ) (p : ℕ) → forgetOf l p .answer ≡ 0 → NoRow (forgetOf l p .area) p
+  pub update-unchanged : (l : List ℕ) → Bytes l → (p k r : ℕ) → NoRow l p → updateOf l p k r .answer ≡ 8 → updateOf l p k r .area ≡ l
+  pub forget-unchanged : (l : List ℕ) → Bytes l → (p : ℕ) → NoRow l p → forgetOf l p .answer ≡ 0 → forgetOf l p .area ≡ l
+
+pub record Kinds : Type 0 where
+  pub verdicts : (s : RoleSet) → (replied 0 (s .bits) ≡ Deny s) × (replied 1 (s .bits) ≡ Allow s)
+  pub kinds : (r : ℕ) → (updated 0 r ≡ Withdrawn r) × (updated 1 r ≡ Given r)
+  pub calls : (p : ℕ) (e : Happening) (t : List Happening) → trailAfter p (callFor p e) 0 t ≡ t ++ e ∷ []
 
 -- ---- demand 2: allow exactly when every possible holder set shares a role with the session, deny exactly when none does,
 -- undecided otherwise
 
 abbrev pub Demand2 : Type 0
-Demand2 = (l : List ℕ) (n : ℕ) (cs : List Call) → openOf l n .answer ≡ 0 → (p s : ℕ) → T (valid p) → Below n s
-    → Decides (Possible n (history l n cs .trail p)) s (decideOf (history l n cs .area) p s .answer)
+Demand2 = (h : History) → Begun h → (p s : ℕ) → T (valid p) → Below (h .roles) s → Decides (Possible (h .roles) (h .trail p)) s (decideOf (h .area) p s .answer)
 
--- the permission that a call is about
-abbrev pub about : Call → ℕ
-about (reply p v s) = p
-about (update p k r) = p
-about (ask p s) = p
-about (forget p) = p
+abbrev pub About : ℕ → Call → Type 0
+About q (opening n) = Unit {0}
+About q (reply p v s) = p ≡ q
+About q (update p k r) = p ≡ q
+About q (ask p s) = p ≡ q
+About q (forget p) = p ≡ q
 
 abbrev pub NoOther : Type 0
-NoOther = (l : List ℕ) (n : ℕ) (cs : List Call) → openOf l n .answer ≡ 0 → (c : Call) (q s : ℕ) → about c ≢ q
-    → decideOf (next c (history l n cs) .area) q s .answer ≡ decideOf (history l n cs .area) q s .answer
+NoOther = (h : History) → Begun h → (c : Call) (q s : ℕ) → ¬ (About q c) → decideOf (next c h .area) q s .answer ≡ decideOf (h .area) q s .answer
 
 abbrev pub Contradicted : Type 0
-Contradicted = (l : List ℕ) (n : ℕ) (cs : List Call) → openOf l n .answer ≡ 0 → (p v s : ℕ) → T (valid p) → T (leb v 1) → T (known n (replied v s))
-    → (replyOf (history l n cs .area) p v s .answer ≡ 6) ↔ ((h : ℕ) → Possible n (history l n cs .trail p) h → ¬ (T (agrees (replied v s) h)))
+Contradicted = (h : History) → Begun h → (p v s : ℕ) → T (valid p) → T (leb v 1) → T (known (h .roles) (replied v s))
+    → (replyOf (h .area) p v s .answer ≡ 6) ↔ ((x : ℕ) → Possible (h .roles) (h .trail p) x → ¬ (T (agrees (replied v s) x)))
+
+-- ---- full and forgotten: something is possible, and no area can say it
+
+abbrev pub trailsWith : History → ℕ → Happening → ℕ → List Happening
+trailsWith h p e q = trailOn q p e 0 (h .trail q)
+
+abbrev pub Sayable : ℕ → (ℕ → List Happening) → Type 0
+Sayable n t = (s : State) × GoodState s × (s .roles ≡ n) × ((q : ℕ) → T (valid q) → (x : ℕ) → Leaves n (rowFor q (s .rows)) x ↔ Possible n (t q) x)
+
+pub record Said (n p : ℕ) (t : ℕ → List Happening) (a b : ℕ) : Type 0 where
+  pub one-of : (a ≡ 0) ⊎ ((a ≡ 6) ⊎ (a ≡ b))
+  pub recorded : (a ≡ 0) ↔ Sayable n t
+  pub contradiction : (a ≡ 6) ↔ ((x : ℕ) → ¬ (Possible n (t p) x))
+  pub unsayable : (a ≡ b) ↔ (((x : ℕ) × Possible n (t p) x) × ¬ (Sayable n t))
+
+pub record Full : Type 0 where
+  pub reply-said : (h : History) → Begun h → (p v s : ℕ) → T (valid p) → T (leb v 1) → T (known (h .roles) (replied v s))
+      → Said (h .roles) p (trailsWith h p (replied v s)) (replyOf (h .area) p v s .answer) 7
+  pub update-said : (h : History) → Begun h → (p k r : ℕ) → T (valid p) → T (leb k 1) → T (known (h .roles) (updated k r))
+      → Said (h .roles) p (trailsWith h p (updated k r)) (updateOf (h .area) p k r .answer) 8
+
+-- ---- what a call about one permission can change of the answer to a call about another: whether there is room for a first row
+
+abbrev pub NothingKnown : ℕ → List Happening → Type 0
+NothingKnown n t = (x : ℕ) → HolderSet n x → Possible n t x
+
+abbrev pub used : History → ℕ
+used h = length (stateOf (h .area) .rows)
+
+pub record TookRoom (p : ℕ) (d : Call) (h k : History) : Type 0 where
+  pub recorded : outOf d (h .area) .answer ≡ 0
+  pub unfit : (outOf d (k .area) .answer ≡ 7) ⊎ (outOf d (k .area) .answer ≡ 8)
+  pub before : NothingKnown (h .roles) (h .trail p)
+  pub after : ¬ (NothingKnown (h .roles) (trailAfter p d 0 (h .trail p)))
+  pub room : used h < 128
+  pub no-room : used k ≡ 128
+
+abbrev pub Others : Type 0
+Others = (h : History) → Begun h → (p : ℕ) (c d : Call) → ¬ (About p c) → About p d
+    → (outOf d (next c h .area) .answer ≡ outOf d (h .area) .answer) ⊎ (TookRoom p d h (next c h) ⊎ TookRoom p d (next c h) h)
 
 -- ---- demand 3: areas reached from opening are equal byte for byte exactly when they have the same role count and the same
 -- possible holder sets for each permission
 
 abbrev pub Demand3 : Type 0
-Demand3 = (l m : List ℕ) (n k : ℕ) (cs ds : List Call) → openOf l n .answer ≡ 0 → openOf m k .answer ≡ 0
-    → (history l n cs .area ≡ history m k ds .area)
-    ↔ ((n ≡ k) × ((p : ℕ) → T (valid p) → (h : ℕ) → Possible n (history l n cs .trail p) h ↔ Possible k (history m k ds .trail p) h))
+Demand3 = (h k : History) → Begun h → Begun k
+    → (h .area ≡ k .area) ↔ ((h .roles ≡ k .roles) × ((p : ℕ) → T (valid p) → (x : ℕ) → Possible (h .roles) (h .trail p) x ↔ Possible (k .roles) (k .trail p) x))
 
 abbrev pub Reordered : Type 0
-Reordered = (l m : List ℕ) (n : ℕ) (es fs : List Event) → openOf l n .answer ≡ 0 → openOf m n .answer ≡ 0 → Rearranged es fs
+Reordered = (l m : List ℕ) (n : ℕ) (es fs : List Event) → openOf l n .answer ≡ 0 → openOf m n .answer ≡ 0 → Moved es fs
     → AllRecorded es (openOf l n .area) → AllRecorded fs (openOf m n .area)
     → history l n (calls es) .area ≡ history m n (calls fs) .area
 
@@ -118,15 +173,3 @@ Reordered = (l m : List ℕ) (n : ℕ) (es fs : List Event) → openOf l n .answ
 
 abbrev pub OneOutcome : Type 0
 OneOutcome = (o : Out) (r s : Answer) (l m : List ℕ) → Gives o r l → Gives o s m → (r ≡ s) × (l ≡ m)
-
--- ---- readings
-
-pub record Readings : Type 0 where
-  -- those of one row
-  pub of-a-row : rows.Readings
-  -- decide on - and on 0 where p has no row
-  pub no-row-empty-session : (s : State) → GoodState s → (p : ℕ) → T (valid p) → isBlank (rowFor p (s .rows)) ≡ true → decideOf (areaOf s) p 0 .answer ≡ 10
-  pub no-row-role-0 : (s : State) → GoodState s → (p : ℕ) → T (valid p) → isBlank (rowFor p (s .rows)) ≡ true → decideOf (areaOf s) p 1 .answer ≡ 12
-  -- allow on - is a contradiction; deny on - is recorded and makes no row, also with 128 rows
-  pub allow-nobody : (s : State) → GoodState s → (p : ℕ) → T (valid p) → replyOf (areaOf s) p 1 0 ≡ stays 6 (areaOf s)
-  pub deny-nobody : (s : State) → GoodState s → (p : ℕ) → T (valid p) → isBlank (rowFor p (s .rows)) ≡ true → replyOf (areaOf s) p 0 0 ≡ stays 0 (areaOf s)

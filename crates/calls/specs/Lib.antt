@@ -3,3 +3,4 @@ pub mod Calls
 pub mod Answers
 pub mod Histories
 pub mod Demands
+pub mod Readings

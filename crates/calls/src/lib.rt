@@ -2,7 +2,7 @@
 ghost use mathlib.Core.Path.{_≡_};
 ghost use Rattle.calls.specs.Answers.{numberOf};
 
-// What a call answers; `numberOf` has the numbers.
+// What a call answers, and what a line that can't be read is answered; `numberOf` has the numbers.
 pub enum Answer {
     Recorded,
     BadArea,
@@ -13,12 +13,13 @@ pub enum Answer {
     Contradiction,
     Full,
     Forgotten,
+    Unreadable,
     Deny,
     Allow,
     Undecided,
 }
 
-// Document 01's number of an answer.
+// The number of an answer: Rules, Answers.
 pub fn number(r: Answer) -> u32
     ensures { λ n. ⌜ n ≡ numberOf r ⌝ }
 {
@@ -32,6 +33,7 @@ pub fn number(r: Answer) -> u32
         Answer::Contradiction => 6,
         Answer::Full => 7,
         Answer::Forgotten => 8,
+        Answer::Unreadable => 9,
         Answer::Deny => 10,
         Answer::Allow => 11,
         Answer::Undecided => 12,

@@ -1,2 +1,4 @@
--- What the proof of a turn cites.
+-- What the proofs of a turn and of the loop cite.
 mod Idle
+mod Came
+mod Going

@@ -1,2 +1,3 @@
 -- What the contracts of `gateway` cite.
 pub mod Turns
+pub mod Moves

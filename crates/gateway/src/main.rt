@@ -1,30 +1,34 @@
-// The line program: standard input to standard output. What is written for which input is proved in `lines`; here the
-// input comes in by pieces, and what is written for them goes out.
+// The line program: standard input to standard output. What is written for which input is proved in `lines`, and here that
+// the loop writes it. To be believed are `outside`, where alone something is read or written, and that `main` calls the loop.
+mod outside;
+
 use area::AREA_BYTES;
 use area::MOST_ROWS;
+use lines::Progress;
 use lines::Run;
-use lines::advance;
 use lines::start;
+use outside::Got;
+use outside::Sent;
 ghost use mathlib.Core.Path.{_≡_};
 ghost use mathlib.Core.Bool.{_&&_};
-ghost use Prim.Native.Nat.{_≤_};
+ghost use Prim.Native.Nat.{_+_, _≤_};
 ghost use lib.Dec.{leb};
-ghost use lib.ListN.{length};
-ghost use Rattle.area.specs.Layout.{mostRows};
-ghost use Rattle.gateway.specs.Turns.{Within, Closed, Read, PieceAnswered, Turned};
+ghost use lib.ListN.{length, replicate};
+ghost use Rattle.libc.specs.Io.{Moved};
+ghost use Rattle.area.specs.Layout.{mostRows, areaBytes};
+ghost use Rattle.answers.specs.Texts.{mostText};
+ghost use Rattle.gateway.specs.Turns.{Busy, fed, failed, done, Closed, AfterRead, afterWrite, Turned};
+ghost use Rattle.gateway.specs.Moves.{Ran};
 
-const INPUT: i32 = 0;
-
-const OUTPUT: i32 = 1;
-
-// The run; the places of the piece from which and up to which it is to be read; whether the input has ended, and whether
-// the program goes on.
+// The run; the places of the piece from which and up to which it is to be read; whether a last line without LF has got one;
+// whether a read or a write failed, and whether all is answered.
 pub struct Flow {
     pub run: Run,
     pub from: usize,
     pub to: usize,
-    pub ended: bool,
-    pub going: bool,
+    pub closed: bool,
+    pub failed: bool,
+    pub done: bool,
 }
 
 // Whether all that came in is read, and all that is to be shown is shown.
@@ -35,111 +39,141 @@ fn is_idle(flow: Flow) -> bool
     (MOST_ROWS <= run.row) & (flow.to <= flow.from)
 }
 
-// The input has ended: a last line without LF gets one, and after it, or where there is none, the program ends.
-fn close(flow: Flow, piece: &mut [u8]) -> Flow
-    requires { ⌜ 1 ≤ length (now piece) ⌝ }
-    ensures { λ r. ⌜ Closed flow r (now (piece .exit)) ⌝ }
+// The first n bytes of the piece are to be read.
+fn feed(flow: Flow, n: usize, closed: bool) -> Flow
+    ensures { λ r. ⌜ r ≡ fed n closed flow ⌝ }
 {
     let run = flow.run;
-    let line = run.line;
-    if !flow.ended & !line.is_empty() {
-        piece[0] = b'\n';
-        return Flow {
-            run,
-            from: 0,
-            to: 1,
-            ended: true,
-            going: true,
-        };
-    }
-    Flow {
-        run,
-        from: 0,
-        to: 0,
-        ended: true,
-        going: false,
-    }
-}
-
-// The next piece of the input. Where it cannot be read, the program ends: what it holds of a line need not be all of it.
-fn read_piece(flow: Flow, piece: &mut [u8]) -> Flow
-    requires { ⌜ 1 ≤ length (now piece) ⌝ }
-    ensures { λ r. ⌜ Read flow r (now (piece .exit)) ⌝ }
-{
-    if flow.ended {
-        return close(flow, piece);
-    }
-    let run = flow.run;
-    let got = libc::read(INPUT, piece);
-    if got < 0 {
-        return Flow {
-            run,
-            from: 0,
-            to: 0,
-            ended: true,
-            going: false,
-        };
-    }
-    let n = io::count(got, piece);
-    if n == 0 {
-        return close(flow, piece);
-    }
     Flow {
         run,
         from: 0,
         to: n,
-        ended: false,
-        going: true,
+        closed,
+        failed: false,
+        done: false,
     }
 }
 
-// What is left of the piece answered, as far as the buffer has room, and the buffer written. Without a reader it ends.
-fn answer_piece(flow: Flow, area: &mut [u8], piece: &[u8], out: &mut [u8]) -> Flow
-    requires { ⌜ Within flow (now piece) ⌝ }
-    ensures { λ r. ⌜ PieceAnswered flow (now (area .entry)) (now (piece .entry)) (now (out .entry)) r (now (area .exit)) (now (out .exit)) ⌝ }
+// A read failed: what is held of a line need not be all of it, so it is not answered.
+fn fail(flow: Flow) -> Flow
+    ensures { λ r. ⌜ r ≡ failed flow ⌝ }
 {
     let run = flow.run;
-    let from = flow.from;
-    let to = flow.to;
-    let p = advance(run, area, &piece[from..to], out);
-    let next = p.run;
-    let n = p.written;
-    let going = io::write_all(OUTPUT, &out[..n]);
     Flow {
-        run: next,
-        from: from + p.read,
-        to,
-        ended: flow.ended,
-        going,
+        run,
+        from: 0,
+        to: 0,
+        closed: flow.closed,
+        failed: true,
+        done: false,
     }
 }
 
-// One move of `Runs`: idle, the next piece is read; else the piece is answered.
+fn finish(flow: Flow) -> Flow
+    ensures { λ r. ⌜ r ≡ done flow ⌝ }
+{
+    let run = flow.run;
+    Flow {
+        run,
+        from: 0,
+        to: 0,
+        closed: flow.closed,
+        failed: false,
+        done: true,
+    }
+}
+
+// The input has ended: a last line without LF gets one, and where there is none, all is answered.
+fn close(flow: Flow, piece: &mut [u8]) -> Flow
+    requires { ⌜ 1 ≤ length (now piece) ⌝ }
+    ensures { λ r. ⌜ Closed flow (now (piece .entry)) r (now (piece .exit)) ⌝ }
+{
+    let run = flow.run;
+    let line = run.line;
+    if line.is_empty() {
+        return finish(flow);
+    }
+    piece[0] = b'\n';
+    feed(flow, 1, true)
+}
+
+// By what a read answered: it failed, the input has ended, or its bytes are the piece.
+fn after_read(flow: Flow, piece: &mut [u8], got: Got) -> Flow
+    requires { ⌜ (1 ≤ length (now piece)) × Moved (length (now piece)) (got .answer) ⌝ }
+    ensures { λ r. ⌜ AfterRead (got .answer) flow (now (piece .entry)) r (now (piece .exit)) ⌝ }
+{
+    let answer = got.answer();
+    if answer < 0 {
+        return fail(flow);
+    }
+    let n = io::count(answer, piece);
+    if n == 0 {
+        return close(flow, piece);
+    }
+    feed(flow, n, false)
+}
+
+// The piece is answered as far as p, and what p wrote was handed to the output.
+fn after_write(flow: Flow, p: Progress, sent: Sent) -> Flow
+    requires { ⌜ (flow .from + p .read ≤ flow .to) × (sent .bytes ≡ p .written) ⌝ }
+    ensures { λ r. ⌜ r ≡ afterWrite (sent .all) flow p ⌝ }
+{
+    let run = p.run;
+    Flow {
+        run,
+        from: flow.from + p.read,
+        to: flow.to,
+        closed: flow.closed,
+        failed: !sent.all(),
+        done: false,
+    }
+}
+
+// One turn: what is unread is answered; idle, the next piece is read; behind the end of the input none is.
 fn turn(flow: Flow, area: &mut [u8], piece: &mut [u8], out: &mut [u8]) -> Flow
-    requires { ⌜ Within flow (now piece) × (1 ≤ length (now piece)) ⌝ }
+    requires { ⌜ Busy flow (now piece) ⌝ }
     ensures { λ r. ⌜ Turned flow (now (area .entry)) (now (piece .entry)) (now (out .entry)) r (now (area .exit)) (now (piece .exit)) (now (out .exit)) ⌝ }
 {
-    if is_idle(flow) {
-        return read_piece(flow, piece);
+    if !is_idle(flow) {
+        return outside::answer_piece(flow, area, piece, out);
     }
-    answer_piece(flow, area, piece, out)
+    if flow.closed {
+        return close(flow, piece);
+    }
+    outside::read_piece(flow, piece)
 }
 
-// A proved loop has to end, so this one counts its turns down from a number that no run uses up.
-fn main() {
-    let mut area = [0u8; AREA_BYTES];
-    let mut piece = io::large_buffer();
-    let mut out = io::large_buffer();
+// Where the program stopped, and how many turns it took.
+pub struct Ended {
+    pub flow: Flow,
+    pub turns: u64,
+}
+
+// All of the input, up to a failure. A proved loop has to end, so this one counts its turns up to a number that no run comes
+// to.
+fn answer_input(area: &mut [u8], piece: &mut [u8], out: &mut [u8]) -> Ended
+    requires { ⌜ (now area ≡ replicate areaBytes 0) × (1 ≤ length (now piece)) × (mostText ≤ length (now out)) ⌝ }
+    ensures { λ r. ⌜ Ran (r .turns) (r .flow) (now (area .exit)) (now (piece .exit)) ⌝ }
+{
     let mut flow = Flow {
         run: start(),
         from: 0,
         to: 0,
-        ended: false,
-        going: true,
+        closed: false,
+        failed: false,
+        done: false,
     };
-    let mut turns = u64::MAX;
-    while turns > 0 && flow.going {
-        turns -= 1;
-        flow = turn(flow, &mut area, &mut piece, &mut out);
+    let mut turns: u64 = 0;
+    while turns < u64::MAX && !(flow.done | flow.failed) {
+        turns += 1;
+        flow = turn(flow, area, piece, out);
     }
+    Ended { flow, turns }
+}
+
+fn main() {
+    let mut area = [0u8; AREA_BYTES];
+    let mut piece = io::large_buffer();
+    let mut out = io::large_buffer();
+    answer_input(&mut area, &mut piece, &mut out);
 }

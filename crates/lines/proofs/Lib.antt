@@ -1,4 +1,5 @@
 -- The laws behind the code of `lines`, and the theorems on its runs and what they write.
+mod Rows
 mod Places
 mod Steps
 pub mod Turns

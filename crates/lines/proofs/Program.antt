@@ -14,7 +14,7 @@ use Rattle.lines.specs.Written.{written, programWrites}
 use Rattle.lines.specs.Run.{Place, showing}
 use Rattle.lines.specs.Program.{start, idle, fedWith, Runs, writes, reads, closes, ends, ProgramWrites}
 use Rattle.split.proofs.SplitLaws.{none-only, lines-closed}
-use Rattle.lines.proofs.Steps.{both}
+use Rattle.answers.proofs.ShowLaws.{both}
 use Rattle.lines.proofs.Turns.{stillTo, lines-only, advances-still}
 
 no-bytes : (bs : List ℕ) → eqb (length bs) 0 ≡ true → bs ≡ []

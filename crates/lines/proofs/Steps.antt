@@ -1,49 +1,25 @@
--- Turns of the code, one after another: each comes where a turn comes, goes on from there, and they end. Assumes nothing.
-use mathlib.Core.Path.{_≡_, refl, sym, ap, subst, subst⁻¹}
-use mathlib.Core.Bool.{Bool, true, false, cond, _&&_, _||_, true≢false, false≢true}
-use mathlib.Core.List.{List, [], _++_, append-nil, append-assoc}
+-- Turns of the code, one after another: each goes on from where the one before came to, and they end. Assumes nothing.
+use mathlib.Core.Path.{_≡_, refl, sym, ap, subst, subst⁻¹, _∙_}
+use mathlib.Core.Bool.{Bool, true, false, cond, _&&_, _||_, true≢false}
+use mathlib.Core.List.{List, [], _++_, append-nil}
 use Prim.Native.Nat.{ℕ, suc, _+_, _-_, _*_, _≤_, _<_}
 use native.Mathlib.Omega.{arith}
 use borrow.Author.Tests.{lt-ltb, le-ltb, ltb-true, ltb-false, leb-true, le-leb, lt-leb}
 use lib.Dec.{leb, ltb}
 use lib.ListN.{length, drop, length-drop}
 use Rattle.area.specs.Layout.{mostRows, goodBytes}
-use Rattle.table.proofs.RowWords.{sound}
-use Rattle.walker.specs.Walk.{walked, Walkable}
-use Rattle.walker.proofs.WalkLaws.{walked-bad, first-walkable}
+use Rattle.walker.specs.Walk.{walked, goOnAt}
+use Rattle.walker.proofs.WalkLaws.{walked-bad, goOnAt-good, goOnAt-bad}
 use Rattle.text.specs.Write.{Wrote}
 use Rattle.text.proofs.WriteLaws.{wrote-then, wrote-length}
-use Rattle.requests.specs.declared.Request.{Request}
-use Rattle.requests.specs.declared.Request.the-variants.{Open, Told, Decide, Forget, Show, Unreadable}
 use Rattle.split.specs.Split.{beforeLf}
-use Rattle.answers.specs.Answers.{answerOf, firstShown}
 use Rattle.answers.specs.Texts.{mostText}
-use Rattle.lines.specs.Run.{Place, placeOf, showing, rowThere, rowShown, shownText, lineEnds, asked, answered, kept, lineRead, lineText, turned, turnText, goesOn, Advances, stops, turns, runAt, rowToShow, placed, Ready, Comes, Shown, Advanced}
+use Rattle.answers.proofs.ShowLaws.{both}
+use Rattle.answers.proofs.Texts.{wrote-nothing}
+use Rattle.lines.specs.Run.{Place, placeOf, showing, rowThere, rowShown, shownText, lineEnds, asked, answered, kept, lineRead, turned, turnText, goesOn, Advances, stops, turns, Takes, none-more, runAt, rowToShow, placed, Settled, Ready, Comes, RestShown, Advanced}
 use Rattle.lines.specs.declared.Run.{Run}
 use Rattle.lines.specs.declared.Progress.{Progress}
-
--- ---- one turn
-
-module _ (p : Progress) (l bs d : List ℕ) (r : Progress) where
-  pub shown-comes : (e : List ℕ) → p .read ≤ length bs → p .run .row < mostRows → Shown p l d r e
-      → Comes p (turned (placed p l bs)) (turnText (placed p l bs)) d r l bs e
-  unfolding turned turnText shownText
-  shown-comes e inside h s = record {
-    read = rw (s .read) inside;
-    place = rw (lt-ltb (p .run .row) mostRows h, s .read) (s .place (drop (p .read) bs));
-    wrote = rw (lt-ltb (p .run .row) mostRows h) (s .wrote);
-    inside = s .inside;
-  }
-
-  pub read-comes : (l′ e : List ℕ) → mostRows ≤ p .run .row → Comes p (lineRead (placed p l bs)) (lineText (placed p l bs)) d r l′ bs e
-      → Comes p (turned (placed p l bs)) (turnText (placed p l bs)) d r l′ bs e
-  unfolding turned turnText
-  read-comes l′ e h s = record {
-    read = s .read;
-    place = rw (le-ltb (p .run .row) mostRows h) (s .place);
-    wrote = rw (le-ltb (p .run .row) mostRows h) (s .wrote);
-    inside = s .inside;
-  }
+use Rattle.lines.proofs.Rows.{takes-then, takes-advances, shows-takes, shows-settled}
 
 -- ---- the code's test
 
@@ -54,28 +30,22 @@ ltb-rest i bs = go (ltb i (length bs)) refl
     go true e = sym (lt-ltb 0 (length (drop i bs)) (let h = ltb-true i (length bs) e in omega (arith, length-drop i bs)))
     go false e = sym (le-ltb 0 (length (drop i bs)) (let h = ltb-false i (length bs) e in omega (arith, length-drop i bs)))
 
-pub test-is : (p : Progress) (l bs : List ℕ) (room : ℕ)
-    → (leb mostText (room - p .written) && (ltb (p .run .row) mostRows || ltb (p .read) (length bs))) ≡ goesOn (room - p .written) (placed p l bs)
+-- where nothing is left to be shown, or there is no room
+pub test-is : (p : Progress) (l bs : List ℕ) (room : ℕ) → Settled room p → (leb mostText (room - p .written) && ltb (p .read) (length bs)) ≡ goesOn (room - p .written) (placed p l bs)
 unfolding goesOn
-test-is p l bs room = ap (λ (t : Bool). leb mostText (room - p .written) && (ltb (p .run .row) mostRows || t)) (ltb-rest (p .read) bs)
-
-pub both : (a b : Bool) → (a && b) ≡ true → (a ≡ true) × (b ≡ true)
-both true true e = (refl, refl)
-both true false e = absurd (false≢true e)
-both false b e = absurd (false≢true e)
+test-is p l bs room settled = go (leb mostText (room - p .written)) refl
+  where
+    go : (t : Bool) → leb mostText (room - p .written) ≡ t → (t && ltb (p .read) (length bs)) ≡ (t && (ltb (p .run .row) mostRows || ltb 0 (length (drop (p .read) bs))))
+    go true e = rw (le-ltb (p .run .row) mostRows (settled (leb-true mostText (room - p .written) e))) (ltb-rest (p .read) bs)
+    go false e = refl
 
 either : (a b : Bool) → (a || b) ≡ true → a ≡ false → b ≡ true
 either false b e f = e
 either true b e f = absurd (true≢false f)
 
-module _ (room : ℕ) (m : Place) (g : goesOn room m ≡ true) where
-  pub has-room : mostText ≤ room
-  unfolding goesOn
-  has-room = leb-true mostText room (both (leb mostText room) (showing m || ltb 0 (length (m .input))) g .0)
-
-  has-input : showing m ≡ false → 0 < length (m .input)
-  unfolding goesOn
-  has-input e = ltb-true 0 (length (m .input)) (either (showing m) (ltb 0 (length (m .input))) (both (leb mostText room) (showing m || ltb 0 (length (m .input))) g .1) e)
+has-input : (room : ℕ) (m : Place) → goesOn room m ≡ true → showing m ≡ false → 0 < length (m .input)
+unfolding goesOn
+has-input room m g e = ltb-true 0 (length (m .input)) (either (showing m) (ltb 0 (length (m .input))) (both (leb mostText room) (showing m || ltb 0 (length (m .input))) g .1) e)
 
 -- ---- turns end
 
@@ -106,81 +76,39 @@ turn-less room m g = go (showing m) refl
     go true e = row-less m (ltb-true (m .row) mostRows e)
     go false e = line-less m (ltb-false (m .row) mostRows e) (has-input room m g e)
 
--- ---- where rows are shown, the area is good
+-- ---- lines one after another
 
-first-shown-walkable : (l : List ℕ) (q : Request) → Walkable (answerOf l q .area) (firstShown l q)
-unfolding answerOf firstShown
-first-shown-walkable l (Open n) h = absurd (omega arith)
-first-shown-walkable l (Told e) h = absurd (omega arith)
-first-shown-walkable l (Decide p s) h = absurd (omega arith)
-first-shown-walkable l (Forget p) h = absurd (omega arith)
-first-shown-walkable l Show h = first-walkable l h
-first-shown-walkable l Unreadable h = absurd (omega arith)
-
-turned-walkable : (m : Place) → Walkable (m .area) (m .row) → Walkable (turned m .area) (turned m .row)
-unfolding turned rowShown lineRead
-turned-walkable m w = go (showing m) refl
-  where
-    read : (t : Bool) → Walkable (cond t (answered m (asked m)) (kept m) .area) (cond t (answered m (asked m)) (kept m) .row)
-    read true = first-shown-walkable (m .area) (asked m)
-    read false = w
-
-    go : (t : Bool) → showing m ≡ t → Walkable (cond t (rowShown m) (lineRead m) .area) (cond t (rowShown m) (lineRead m) .row)
-    go true e = λ h. w (ltb-true (m .row) mostRows e)
-    go false e = read (lineEnds m)
-
-pub rowToShow-walkable : (l : List ℕ) (i : ℕ) → Walkable l (rowToShow l i)
-rowToShow-walkable l i = go (ltb i mostRows) refl (goodBytes l) refl
-  where
-    go : (s : Bool) → ltb i mostRows ≡ s → (g : Bool) → goodBytes l ≡ g → Walkable l (cond s (cond g i mostRows) i)
-    go true e true f h = sound l (rw f tt)
-    go true e false f h = absurd (omega arith)
-    go false e g f h = let k = ltb-false i mostRows e in absurd (omega arith)
-
--- ---- turns one after another
-
--- from p₀ on the area l₀, in the piece bs, into the buffer d₀, the code has come to p: what it advances from there, it advances in all
+-- from p₀ on the area l₀, in the piece bs, into the buffer d₀, the code has come to p
 pub record Midway (l₀ bs d₀ : List ℕ) (p₀ : Progress) (l d : List ℕ) (p : Progress) : Type 0 where
   pub text : List ℕ
   pub read : p .read ≤ length bs
-  pub walkable : Walkable l (p .run .row)
-  pub wrote : Wrote d₀ 0 text d (p .written)
+  pub wrote : Wrote d₀ (p₀ .written) text d (p .written)
   pub inside : p .written ≤ length d₀
-  pub goes : (k : Place) (t : List ℕ) → Advances (length d₀ - p .written) (placed p l bs) k t → Advances (length d₀) (placed p₀ l₀ bs) k (text ++ t)
+  pub settled : Settled (length d₀) p
+  pub takes : Takes (length d₀ - p₀ .written) (placed p₀ l₀ bs) (placed p l bs) text
 
-pub midway-start : (l bs d : List ℕ) (p : Progress) → p .read ≡ 0 → p .written ≡ 0 → Walkable l (p .run .row) → Midway l bs d p l d p
-midway-start l bs d p r w k = record {
-  text = [];
-  read = rw r (omega arith);
-  walkable = k;
-  wrote = record { bytes = refl; next = w };
-  inside = rw w (omega arith);
-  goes = λ q t a. subst (λ (room : ℕ). Advances room (placed p l bs) q t) (let z : length d - p .written ≡ length d = omega arith in z) a;
-}
+-- the code's test
+abbrev pub goes-on : ℕ → List ℕ → Progress → Bool
+goes-on room bs p = leb mostText (room - p .written) && ltb (p .read) (length bs)
 
-module _ (l₀ bs d₀ : List ℕ) (p₀ : Progress) (l d : List ℕ) (p : Progress) (m : Midway l₀ bs d₀ p₀ l d p) (g : goesOn (length d₀ - p .written) (placed p l bs) ≡ true) where
-  pub midway-ready : Ready p l bs d
-  midway-ready = let room = has-room (length d₀ - p .written) (placed p l bs) g in record { read = m .read; room = omega (arith, room, wrote-length (m .wrote)); walkable = m .walkable }
+module _ (l₀ bs d₀ : List ℕ) (p₀ : Progress) (l d : List ℕ) (p : Progress) (m : Midway l₀ bs d₀ p₀ l d p) where
+  pub midway-ready : goes-on (length d₀) bs p ≡ true → Ready p bs d
+  midway-ready g =
+      let t = both (leb mostText (length d₀ - p .written)) (ltb (p .read) (length bs)) g in
+      let room = leb-true mostText (length d₀ - p .written) (t .0) in
+      record { read = ltb-true (p .read) (length bs) (t .1); room = omega (arith, room, wrote-length (m .wrote)); shown = m .settled room }
 
-  pub midway-less : (l′ d′ : List ℕ) (r : Progress) → Comes p (turned (placed p l bs)) (turnText (placed p l bs)) d r l′ bs d′ → effort (placed r l′ bs) < effort (placed p l bs)
-  midway-less l′ d′ r c = subst⁻¹ (λ (x : Place). effort x < effort (placed p l bs)) (c .place) (turn-less (length d₀ - p .written) (placed p l bs) g)
-
-  pub midway-next : (l′ d′ : List ℕ) (r : Progress) → Comes p (turned (placed p l bs)) (turnText (placed p l bs)) d r l′ bs d′ → Midway l₀ bs d₀ p₀ l′ d′ r
-  midway-next l′ d′ r c = record {
-    text = m .text ++ turnText (placed p l bs);
-    read = c .read;
-    walkable = subst⁻¹ (λ (x : Place). Walkable (x .area) (x .row)) (c .place) (turned-walkable (placed p l bs) (m .walkable));
-    wrote = wrote-then (m .wrote) (c .wrote);
-    inside = rw (← wrote-length (m .wrote)) (c .inside);
-    goes = λ k t a.
-        let room : length d₀ - r .written ≡ length d₀ - p .written - length (turnText (placed p l bs)) = let n = c .wrote .next in omega arith in
-        subst (λ (x : List ℕ). Advances (length d₀) (placed p₀ l₀ bs) k x) (sym (append-assoc (m .text) (turnText (placed p l bs)) t))
-        (m .goes k (turnText (placed p l bs) ++ t) (turns g (subst (λ (x : Place). Advances (length d₀ - p .written - length (turnText (placed p l bs))) x k t) (c .place) (subst (λ (n : ℕ). Advances n (placed r l′ bs) k t) room a))));
-  }
-
-pub midway-end : (l₀ bs d₀ : List ℕ) (p₀ : Progress) (l d : List ℕ) (p : Progress) (m : Midway l₀ bs d₀ p₀ l d p) → goesOn (length d₀ - p .written) (placed p l bs) ≡ false
-    → Advances (length d₀) (placed p₀ l₀ bs) (placed p l bs) (m .text)
-midway-end l₀ bs d₀ p₀ l d p m g = subst (Advances (length d₀) (placed p₀ l₀ bs) (placed p l bs)) (append-nil (m .text)) (m .goes (placed p l bs) [] (stops g))
+  pub midway-next : (l′ d′ : List ℕ) (r : Progress) → Comes p l bs d r l′ d′ → Midway l₀ bs d₀ p₀ l′ d′ r
+  midway-next l′ d′ r c =
+      let long = wrote-length (m .wrote) in
+      let room : length d - p .written ≡ length d₀ - p₀ .written - length (m .text) = let n = m .wrote .next in omega arith in record {
+        text = m .text ++ c .text;
+        read = c .read;
+        wrote = wrote-then (m .wrote) (c .wrote);
+        inside = rw (← long) (c .inside);
+        settled = λ h. c .settled (omega arith);
+        takes = takes-then (m .takes) (subst (λ (n : ℕ). Takes n (placed p l bs) (placed r l′ bs) (c .text)) room (c .takes));
+      }
 
 -- ---- before the first turn
 
@@ -208,11 +136,47 @@ module _ (r : Run) (l bs : List ℕ) (room : ℕ) (h : mostText ≤ room) (k : P
       subst (λ (x : List ℕ). Advances room m k (x ++ t)) text
       (turns goes (subst⁻¹ (λ (n : ℕ). Advances n (turned m) k t) same (subst⁻¹ (λ (x : Place). Advances room x k t) place a)))
 
-  pub rowToShow-goes : Advances room (placeOf (runAt r (rowToShow l (r .row))) l bs) k t → Advances room (placeOf r l bs) k t
+  rowToShow-goes : Advances room (placeOf (runAt r (rowToShow l (r .row))) l bs) k t → Advances room (placeOf r l bs) k t
   rowToShow-goes a = go (ltb (r .row) mostRows) refl (goodBytes l) refl a
     where
-      go : (s : Bool) → ltb (r .row) mostRows ≡ s → (g : Bool) → goodBytes l ≡ g
-          → Advances room (placeOf (runAt r (cond s (cond g (r .row) mostRows) (r .row))) l bs) k t → Advances room (placeOf r l bs) k t
-      go true e true f b = b
-      go true e false f b = skipped (ltb-true (r .row) mostRows e) f b
+      go : (s : Bool) → ltb (r .row) mostRows ≡ s → (g : Bool) → goodBytes l ≡ g → Advances room (placeOf (runAt r (cond s (goOnAt l (r .row)) (r .row))) l bs) k t → Advances room (placeOf r l bs) k t
+      go true e true f b = subst (λ (i : ℕ). Advances room (placeOf (runAt r i) l bs) k t) (goOnAt-good l (r .row) f) b
+      go true e false f b = skipped (ltb-true (r .row) mostRows e) f (subst (λ (i : ℕ). Advances room (placeOf (runAt r i) l bs) k t) (goOnAt-bad l (r .row) f) b)
       go false e g f b = b
+
+-- the rows left from before come first
+module _ (w : Run) (l bs d : List ℕ) (p₀ : Progress) (e₀ : List ℕ) (c : RestShown w l d p₀ e₀) where
+  long₀ : length e₀ ≡ length d
+  long₀ = wrote-length (c .rows .wrote)
+
+  pub midway-start : Midway l bs e₀ p₀ l e₀ p₀
+  midway-start = record {
+    text = [];
+    read = rw (c .read) (omega arith);
+    wrote = wrote-nothing e₀ (p₀ .written);
+    inside = rw long₀ (c .rows .inside);
+    settled = λ k. shows-settled (c .rows .shows) (let n = c .rows .wrote .next in let m = long₀ in omega arith);
+    takes = none-more;
+  }
+
+  module _ (h : mostText ≤ length d) where
+    rest-goes : (k : Place) (t : List ℕ) → Advances (length e₀ - p₀ .written) (placed p₀ l bs) k t → Advances (length d) (placeOf w l bs) k (c .rows .text ++ t)
+    rest-goes k t a =
+        let text = c .rows .text in
+        let row = p₀ .run .row in
+        let place : placed p₀ l bs ≡ placeOf (runAt w row) l bs = ap (λ (x : Run). placeOf x l (drop (p₀ .read) bs)) (c .run) ∙ ap (λ (n : ℕ). placeOf (runAt w row) l (drop n bs)) (c .read) in
+        let left : length e₀ - p₀ .written ≡ length d - 0 - length text = let n = c .rows .wrote .next in let m = long₀ in omega arith in
+        let whole : length d - 0 ≡ length d = omega arith in
+        rowToShow-goes w l bs (length d) h k (text ++ t) (subst (λ (n : ℕ). Advances n (placeOf (runAt w (rowToShow l (w .row))) l bs) k (text ++ t)) whole
+        (takes-advances (shows-takes (placeOf w l bs) (c .rows .shows)) (subst (λ (n : ℕ). Advances n (placeOf (runAt w row) l bs) k t) left (subst (λ (x : Place). Advances (length e₀ - p₀ .written) x k t) place a))))
+
+    pub midway-end : (l′ e : List ℕ) (p : Progress) → Midway l bs e₀ p₀ l′ e p → goes-on (length e₀) bs p ≡ false → Advanced w l bs d p l′ e
+    midway-end l′ e p m g =
+        let stopped : goesOn (length e₀ - p₀ .written - length (m .text)) (placed p l′ bs) ≡ false =
+        ap (λ (n : ℕ). goesOn n (placed p l′ bs)) (let z : length e₀ - p₀ .written - length (m .text) ≡ length e₀ - p .written = let n = m .wrote .next in omega arith in z) ∙ sym (test-is p l′ bs (length e₀) (m .settled)) ∙ g in record {
+          text = c .rows .text ++ m .text;
+          read = m .read;
+          wrote = wrote-then (c .rows .wrote) (m .wrote);
+          inside = rw (← long₀) (m .inside);
+          goes = rest-goes (placed p l′ bs) (m .text) (subst (Advances (length e₀ - p₀ .written) (placed p₀ l bs) (placed p l′ bs)) (append-nil (m .text)) (takes-advances (m .takes) (stops stopped)));
+        }

@@ -11,22 +11,24 @@
 --     turned, turnText     one turn: where it comes to, and what it writes
 --     goesOn room m        a turn is taken while there is something to do, and room for what it writes
 --     Advances room m k t  turns are taken from m on as long as it goes on: they come to k and write t
+--     Takes room m k t     turns are taken from m on: they come to k and write t
 --     runAt, rowToShow     a run at another row; the row to go on with, where a bad area has none
---     placed, Ready, Comes, Shown, Advanced    what the functions of the code ask and promise
+--     placed, Settled      where the code has come to; rows are left to be shown only where there is no room
+--     Ready, Comes, RestShown, Advanced    what the functions of the code ask and promise
 use mathlib.Core.Path.{_≡_}
 use mathlib.Core.Bool.{Bool, true, false, cond, _&&_, _||_}
 use mathlib.Core.List.{List, [], _++_}
-use Prim.Native.Nat.{ℕ, suc, _+_, _-_, _≤_}
+use Prim.Native.Nat.{ℕ, suc, _+_, _-_, _≤_, _<_}
 use lib.Dec.{ltb, leb}
 use lib.ListN.{length, take, drop}
-use Rattle.area.specs.Layout.{mostRows, goodBytes}
-use Rattle.walker.specs.Walk.{walked, Walkable}
-use Rattle.table.specs.Table.{nth}
+use Rattle.area.specs.Layout.{mostRows}
+use Rattle.walker.specs.Walk.{walked, goOnAt}
 use Rattle.text.specs.Write.{Wrote}
 use Rattle.requests.specs.declared.Request.{Request}
 use Rattle.split.specs.Split.{Held, none, heldAll, said, beforeLf, heldIn}
 use Rattle.answers.specs.Answers.{answerOf, firstShown}
-use Rattle.answers.specs.Texts.{mostText, answerText, rowText}
+use Rattle.answers.specs.Texts.{mostText, answerText}
+use Rattle.answers.specs.Show.{rowAfter, rowTextAt, RowsShown}
 use Rattle.lines.specs.Written.{nextNumber}
 use Rattle.lines.specs.declared.Run.{Run}
 use Rattle.lines.specs.declared.Progress.{Progress}
@@ -53,10 +55,10 @@ abbrev pub atRow : Place → ℕ → Place
 atRow m i = record { held = m .held; number = m .number; row = i; area = m .area; input = m .input }
 
 unfoldable pub rowShown : Place → Place
-rowShown m = atRow m (cond (rowThere m) (m .row + 1) mostRows)
+rowShown m = atRow m (rowAfter (m .area) (m .row))
 
 unfoldable pub shownText : Place → List ℕ
-shownText m = cond (rowThere m) (rowText (nth (m .row) (walked (m .area)))) []
+shownText m = rowTextAt (m .area) (m .row)
 
 -- ---- a line read
 
@@ -93,6 +95,10 @@ pub data Advances : ℕ → Place → Place → List ℕ → Type 0 where
   stops : {room : ℕ} {m : Place} → goesOn room m ≡ false → Advances room m m []
   turns : {room : ℕ} {m k : Place} {t : List ℕ} → goesOn room m ≡ true → Advances (room - length (turnText m)) (turned m) k t → Advances room m k (turnText m ++ t)
 
+pub data Takes : ℕ → Place → Place → List ℕ → Type 0 where
+  none-more : {room : ℕ} {m : Place} → Takes room m m []
+  one-more : {room : ℕ} {m k : Place} {t : List ℕ} → goesOn room m ≡ true → Takes (room - length (turnText m)) (turned m) k t → Takes room m k (turnText m ++ t)
+
 -- ---- what the code's functions promise
 
 -- the run r at another row
@@ -101,31 +107,37 @@ runAt r i = record { line = r .line; number = r .number; row = i }
 
 -- a bad area has no row to be shown
 abbrev pub rowToShow : List ℕ → ℕ → ℕ
-rowToShow l i = cond (ltb i mostRows) (cond (goodBytes l) i mostRows) i
+rowToShow l i = cond (ltb i mostRows) (goOnAt l i) i
 
 -- where the code has come to on the area l, in the piece bs
 abbrev pub placed : Progress → List ℕ → List ℕ → Place
 placed p l bs = placeOf (p .run) l (drop (p .read) bs)
 
--- a turn can be taken on the area l, in the piece bs, into the buffer d
-pub record Ready (p : Progress) (l bs d : List ℕ) : Type 0 where
-  pub read : p .read ≤ length bs
+-- in a buffer of n bytes
+abbrev pub Settled : ℕ → Progress → Type 0
+Settled n p = mostText ≤ n - p .written → mostRows ≤ p .run .row
+
+-- a line can be read in the piece bs, and answered into the buffer d
+pub record Ready (p : Progress) (bs d : List ℕ) : Type 0 where
+  pub read : p .read < length bs
   pub room : p .written + mostText ≤ length d
-  pub walkable : Walkable l (p .run .row)
+  pub shown : mostRows ≤ p .run .row
 
--- from p on, it comes to m, which is r on the area l in the piece bs, and writes t: e is the buffer d afterwards
-pub record Comes (p : Progress) (m : Place) (t d : List ℕ) (r : Progress) (l bs e : List ℕ) : Type 0 where
+-- from p on the area l, in the piece bs, into the buffer d, turns come to r; l′ and e are the area and the buffer afterwards
+pub record Comes (p : Progress) (l bs d : List ℕ) (r : Progress) (l′ e : List ℕ) : Type 0 where
+  pub text : List ℕ
+  pub further : p .read < r .read
   pub read : r .read ≤ length bs
-  pub place : placed r l bs ≡ m
-  pub wrote : Wrote d (p .written) t e (r .written)
+  pub wrote : Wrote d (p .written) text e (r .written)
   pub inside : r .written ≤ length d
+  pub settled : Settled (length d) r
+  pub takes : Takes (length d - p .written) (placed p l bs) (placed r l′ bs) text
 
--- a row shown, whatever the piece is
-pub record Shown (p : Progress) (l d : List ℕ) (r : Progress) (e : List ℕ) : Type 0 where
-  pub read : r .read ≡ p .read
-  pub place : (bs : List ℕ) → placeOf (r .run) l bs ≡ rowShown (placeOf (p .run) l bs)
-  pub wrote : Wrote d (p .written) (shownText (placeOf (p .run) l [])) e (r .written)
-  pub inside : r .written ≤ length d
+-- the rows that the run w has left to be shown are, from the start of the buffer d on, as far as there is room
+pub record RestShown (w : Run) (l d : List ℕ) (r : Progress) (e : List ℕ) : Type 0 where
+  pub read : r .read ≡ 0
+  pub run : r .run ≡ runAt w (r .run .row)
+  pub rows : RowsShown l (rowToShow l (w .row)) 0 d (record { row = r .run .row; written = r .written }) e
 
 -- from the run r on the area l with the input bs, into the buffer d; p, l′ and e are what it came to, the area and the buffer afterwards
 pub record Advanced (r : Run) (l bs d : List ℕ) (p : Progress) (l′ e : List ℕ) : Type 0 where

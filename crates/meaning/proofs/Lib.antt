@@ -8,6 +8,5 @@ pub mod Verdicts
 pub mod Answers
 pub mod Trails
 pub mod Canonical
-pub mod Readings
 pub mod Singles
 pub mod Theorems

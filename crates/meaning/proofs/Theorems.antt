@@ -11,7 +11,6 @@ use Rattle.roles.specs.Sets.{single, Below}
 use Rattle.meaning.specs.Events.{known, agrees, Effect, Reached, HolderSet, Possible, Decides, Reply}
 use Rattle.meaning.specs.Lists.{Mem, Ascending, put}
 use Rattle.meaning.specs.Rows.{Row, blank, Leaves, Good, mostOpens, fits, hasProperPart, apart, reduce, giving, contradicts, step, settle, Settles, rowAfter, Recorded, decide}
-use Rattle.meaning.specs.Readings.{Readings}
 use Rattle.meaning.proofs.OpenLaws as opens
 use Rattle.meaning.proofs.Steps as steps
 use Rattle.meaning.proofs.Kept as kept
@@ -19,7 +18,6 @@ use Rattle.meaning.proofs.Verdicts as verdicts
 use Rattle.meaning.proofs.Answers as answers
 use Rattle.meaning.proofs.Trails as trails
 use Rattle.meaning.proofs.Canonical as canon
-use Rattle.meaning.proofs.Readings as read
 use Rattle.meaning.proofs.Singles as one-role
 use Rattle.meaning.specs.declared.Happening.{Happening}
 
@@ -121,10 +119,6 @@ pub reduce-ascending : (l : List ℕ) → Ascending (reduce l)
 reduce-ascending = opens.reduce-ascending
 
 -- ---- examples
-
--- the readings of document 01 marked P that speak of one row, and the worked case
-pub readings : Readings
-readings = read.readings
 
 -- a good row with 15 open sets
 pub full-row : (w : Row) × Good 16 w × (length (w .opens) ≡ 15) × T (fits w)

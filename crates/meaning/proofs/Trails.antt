@@ -5,7 +5,7 @@ use mathlib.Core.Logic.{_↔_, Iff·trans}
 use Prim.Native.Nat.{ℕ}
 use lib.Dec.{T}
 use Rattle.roles.proofs.Laws.{shares-empty}
-use Rattle.meaning.specs.Events.{agrees, after, Becomes, Reached, HolderSet, Possible, Reply}
+use Rattle.meaning.specs.Events.{agrees, after, Effect, Becomes, Reached, HolderSet, Possible, Reply}
 use Rattle.meaning.specs.Rows.{Row, blank, Leaves, Good, step, rowAfter, Recorded}
 use Rattle.meaning.proofs.Steps.{step-leaves}
 use Rattle.meaning.proofs.Kept.{blank-good, step-good}
@@ -33,13 +33,32 @@ after-leaves n w (e ∷ es) g r h =
 
 -- ---- from no row: all sets of roles below n
 
-blank-leaves : (n h : ℕ) → HolderSet n h → Leaves n blank h
+pub blank-leaves : (n h : ℕ) → HolderSet n h → Leaves n blank h
 blank-leaves n h b = record { holder = b; denies = shares-empty h; meets = λ o m. absurd m }
 
 pub row-leaves : (n : ℕ) (es : List Happening) → Recorded n blank es → (h : ℕ) → Leaves n (rowAfter blank es) h ↔ Possible n es h
 row-leaves n es r h = Iff·trans (after-leaves n blank es (blank-good n) r h) (
   (λ p. (p .0, p .1 .holder, p .2)),
   λ p. (p .0, blank-leaves n (p .0) (p .1), p .2),
+)
+
+-- ---- one event more
+
+becomes-then : (es : List Happening) (e : Happening) (h₀ h : ℕ) → Becomes (es ++ e ∷ []) h₀ h ↔ ((g : ℕ) × Becomes es h₀ g × T (agrees e g) × (after e g ≡ h))
+becomes-then [] e h₀ h = (
+  (λ b. (h₀, refl, b .0, b .1)),
+  λ x. subst⁻¹ (λ (g : ℕ). Becomes (e ∷ []) g h) (x .1) (x .2, x .3),
+)
+becomes-then (f ∷ es) e h₀ h =
+    let ih = becomes-then es e (after f h₀) h in (
+      (λ b. let x = ih .0 (b .1) in (x .0, (b .0, x .1), x .2, x .3)),
+      λ x. (x .1 .0, ih .1 (x .0, x .1 .1, x .2, x .3)),
+    )
+
+pub possible-then : (n : ℕ) (es : List Happening) (e : Happening) (h : ℕ) → Possible n (es ++ e ∷ []) h ↔ Effect (Possible n es) e h
+possible-then n es e h = (
+  (λ p. let x = becomes-then es e (p .0) h .0 (p .2) in (x .0, (p .0, p .1, x .1), x .2, x .3)),
+  λ x. (x .1 .0, x .1 .1, becomes-then es e (x .1 .0) h .1 (x .0, x .1 .2, x .2, x .3)),
 )
 
 -- ---- replies in another order

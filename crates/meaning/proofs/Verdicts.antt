@@ -8,7 +8,7 @@ use Rattle.roles.specs.Sets.{In, allBelow, without, shares, partOf, Below}
 use Rattle.roles.proofs.Tests.{T?, unlike}
 use Rattle.roles.proofs.Member.{in?, in-allBelow, in-without, shares-law, partOf-law, outside-law, below-law, some-in}
 use Rattle.roles.proofs.Laws.{shares-at, shares-partOf, allBelow-below, without-below, without-apart}
-use Rattle.meaning.specs.Events.{rolesIn, known, agrees, NoneShares, AllShare, OneShares, OneShares-not, Decides}
+use Rattle.meaning.specs.Events.{rolesIn, known, agrees, NoneShares, AllShare, OneShares, OneSharesNone, Decides}
 use Rattle.meaning.specs.Lists.{Mem}
 use Rattle.meaning.specs.Rows.{Row, Leaves, Good, hasPart, contradicts, decide}
 use Rattle.meaning.proofs.OpenLaws.{hasPart-law, noPart-law}
@@ -81,7 +81,7 @@ contradicts-law n w (Withdrawn r) g k = ((λ t. absurd t), (λ f. f (largest n w
 
 -- two grounds that exclude each other, the first of which is asked first
 ladder : (P : ℕ → Type 0) (s : ℕ) (a b : Bool) → T a ↔ NoneShares P s → T b ↔ AllShare P s → (NoneShares P s → ¬ (AllShare P s))
-    → (T (not a) → OneShares P s) → (T (not b) → OneShares-not P s) → Decides P s (cond a 10 (cond b 11 12))
+    → (T (not a) → OneShares P s) → (T (not b) → OneSharesNone P s) → Decides P s (cond a 10 (cond b 11 12))
 ladder P s true b d a x y z = record {
   one-of = inl refl;
   deny = ((λ e. d .0 tt), (λ p. refl));

@@ -10,7 +10,7 @@
 --     Reached P es         what the starting sets P become along the trail
 --     HolderSet n h        a holder set: any set of roles below n
 --     Possible n es        the possible holder sets of a trail: what the holder sets become along it
---     NoneShares, AllShare, OneShares, OneShares-not    no set, every set, some set of P shares a role with the session; some does not
+--     NoneShares, AllShare, OneShares, OneSharesNone    no set, every set, some set of P shares a role with the session; some does not
 --     Verdict a            a is 10, 11 or 12
 --     Decides P s a        a is the answer to the session s that the holder sets P force
 --     isReply e, Reply e   the event is a reply, and no update
@@ -75,8 +75,8 @@ AllShare P s = (h : ℕ) → P h → T (shares h s)
 abbrev pub OneShares : (ℕ → Type 0) → ℕ → Type 0
 OneShares P s = (h : ℕ) × P h × T (shares h s)
 
-abbrev pub OneShares-not : (ℕ → Type 0) → ℕ → Type 0
-OneShares-not P s = (h : ℕ) × P h × ¬ (T (shares h s))
+abbrev pub OneSharesNone : (ℕ → Type 0) → ℕ → Type 0
+OneSharesNone P s = (h : ℕ) × P h × ¬ (T (shares h s))
 
 abbrev pub Verdict : ℕ → Type 0
 Verdict a = (a ≡ 10) ⊎ ((a ≡ 11) ⊎ (a ≡ 12))
@@ -86,7 +86,7 @@ pub record Decides (P : ℕ → Type 0) (s a : ℕ) : Type 0 where
   pub one-of : Verdict a
   pub deny : (a ≡ 10) ↔ NoneShares P s
   pub allow : (a ≡ 11) ↔ AllShare P s
-  pub undecided : (a ≡ 12) ↔ (OneShares P s × OneShares-not P s)
+  pub undecided : (a ≡ 12) ↔ (OneShares P s × OneSharesNone P s)
 
 abbrev pub isReply : Happening → Bool
 isReply (Allow s) = true

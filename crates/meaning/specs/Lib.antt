@@ -2,4 +2,3 @@
 pub mod Events
 pub mod Lists
 pub mod Rows
-pub mod Readings

@@ -9,7 +9,7 @@
 --     apart u l            the sets of the list that share no role with u
 --     reduce l             the sets of the list that have no other of it as a proper part, each once, ascending
 --     denying, allowing, clearing, giving, withdrawing    the steps, over plain sets
---     contradicts e w      no holder set that the row leaves possible agrees with the event
+--     contradicts e w      an allow on a set that is all denied, or a deny on a set of which an open set is part
 --     step e w             the row after the event
 --     Settled              an answer with the row afterwards
 --     unchanged a w        the answer a, and the row as it was

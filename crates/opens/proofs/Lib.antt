@@ -1,5 +1,6 @@
 -- The laws of the rules for open sets, and what the functions cite.
 pub mod OpenRules
+pub mod Halves
 mod OpensLaws
-mod SearchLaws
+mod TwoLaws
 mod PassLaws

@@ -265,10 +265,6 @@ pub sure-good : (m d : ℕ) (l : List ℕ) → opensSure m d l ≡ true → true
 unfolding opensSure
 sure-good m d l h = sym (T-true (opensGood m d l) (T-and (opensGood m d l) (eachOutside l) .0 (subst⁻¹ T h tt) .0))
 
-pub sure-none : (m d : ℕ) → opensSure m d [] ≡ true
-unfolding opensSure opensGood eachOutside
-sure-none m d = refl
-
 -- ---- the places of a row
 
 -- the tests of the places from number `at` on

@@ -1,11 +1,14 @@
--- Good open sets: the rules of document 01 for the open sets of a row, in the first of its places. Throughout, `all` is the
+-- Good open sets: the rules for the open sets of a row (Rules, The lent area), in the first of its places. Throughout, `all` is the
 -- set of all roles below n: a set has only such roles exactly when it is at most `all`.
 --     allOf bs                all of the rules hold
 --     belowFirst o l          o is below the first of l
 --     openRules all d o l     the rules for an open set o before those of l, where d is the denied set
 --     opensGood all d l       they hold for each of l
 --     placesGood all d c l    the first c of the places l have good open sets, and the others nothing
-use mathlib.Core.Bool.{Bool, true, not, _&&_}
+--     says d c                something is denied, or there is an open set
+--     bodyGood all d c l      it is so of a body, the denied set d and the places l, and the places are good
+--     fewOpens                up to so many open sets are few
+use mathlib.Core.Bool.{Bool, true, not, _&&_, _||_}
 use mathlib.Core.List.{List, [], _∷_}
 use Prim.Native.Nat.{ℕ}
 use lib.Dec.{eqb, ltb, leb}
@@ -33,3 +36,12 @@ opensGood all d (o ∷ l) = opensGood all d l && allOf (openRules all d o l)
 
 unfoldable pub placesGood : ℕ → ℕ → ℕ → List ℕ → Bool
 placesGood all d c l = opensGood all d (take c l) && allZero (drop c l)
+
+abbrev pub says : ℕ → ℕ → Bool
+says d c = not (eqb d 0) || not (eqb c 0)
+
+unfoldable pub bodyGood : ℕ → ℕ → ℕ → List ℕ → Bool
+bodyGood all d c l = says d c && placesGood all d c l
+
+abbrev pub fewOpens : ℕ
+fewOpens = 10

@@ -1,19 +1,14 @@
 -- Parts of the rules, which functions test one by one.
---     firstPart s l        how many sets of the list stand before the first that is part of s; all of them, where none is
 --     standApart l         no set of the list is part of a later one
 --     unionOf l            the roles of all sets of the list
 --     eachOutside l        each set of the list has a role outside the union of the later ones
 --     opensSure all d l    good open sets beside the denied set d, each with a role outside the union of the later ones
-use mathlib.Core.Bool.{Bool, true, not, cond, _&&_}
+use mathlib.Core.Bool.{Bool, true, not, _&&_}
 use mathlib.Core.List.{List, [], _∷_}
-use Prim.Native.Nat.{ℕ, suc}
+use Prim.Native.Nat.{ℕ}
 use Rattle.roles.specs.Sets.{partOf, joined}
 use Rattle.meaning.specs.Lists.{any}
 use Rattle.opens.specs.Opens.{opensGood}
-
-unfoldable pub firstPart : ℕ → List ℕ → ℕ
-firstPart s [] = 0
-firstPart s (o ∷ l) = cond (partOf o s) 0 (suc (firstPart s l))
 
 unfoldable pub standApart : List ℕ → Bool
 standApart [] = true

@@ -1,13 +1,19 @@
 -- Lines on both sides of what reads.
+--     roles l     the set of the roles of a list
 --     Readings    the request that each of them says
 use mathlib.Core.Path.{_≡_}
-use mathlib.Core.List.{[], _∷_, _++_}
-use Rattle.meaning.specs.Readings.{roles}
+use mathlib.Core.List.{List, [], _∷_, _++_}
+use Prim.Native.Nat.{ℕ}
+use Rattle.roles.specs.Sets.{setOf}
+use Rattle.roles.specs.declared.RoleSet.{RoleSet}
 use Rattle.meaning.specs.declared.Happening.the-variants.{Deny, Given}
 use Rattle.text.specs.Ascii.{comma, minus, space}
 use Rattle.text.specs.Number.{numberText}
 use Rattle.requests.specs.Request.{letterO, letterD, letterG, letterF, letterS, spaced, told, requestOf}
 use Rattle.requests.specs.declared.Request.the-variants.{Open, Forget, Show, Unreadable}
+
+abbrev pub roles : List ℕ → RoleSet
+roles l = record { bits = setOf l }
 
 pub record Readings : Type 0 where
   pub open-65 : requestOf (letterO ∷ spaced 65) ≡ Open 65

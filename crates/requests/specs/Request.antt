@@ -3,7 +3,7 @@
 --     letterO, letterA, letterD, letterG, letterR, letterQ, letterF, letterS    the letters that lines begin with, as bytes
 --     spaced v, spacedSet s    a number and a set, each behind a space
 --     eventText p e            the line that tells of the happening e about p
---     requestText q            the line that asks for q, as document 01 writes it
+--     requestText q            the line that asks for q, as Rules, The line program, writes it
 --     HappeningInRange e       its set or role lies in its range
 --     InRange q                q has a text: its numbers lie in their ranges
 --     told p e                 the request that tells of the happening e about p

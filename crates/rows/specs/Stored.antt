@@ -4,7 +4,7 @@
 --     padded k, stored k   the open sets of the list k in the first places, zeros behind them
 --     Tidy m l             `l` is so stored, with at most m open sets
 --     rowOf, storedRow     the same for a row
---     answerNumber, verdictNumber    document 01's number for each case
+--     answerNumber, verdictNumber    the number of each case: Rules, Answers
 --     Gives t r            `r` is the answer and the row of t
 use mathlib.Core.Path.{_≡_}
 use mathlib.Core.List.{List, _++_}

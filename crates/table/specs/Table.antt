@@ -14,7 +14,7 @@ use lib.Dec.{T, ltb, eqb}
 use lib.ListN.{length, getD}
 use Rattle.meaning.specs.Rows.{Row, blank}
 use Rattle.area.specs.Layout.{mostRows, areaBytes, goodBytes}
-use Rattle.area.specs.State.{Entry, State, entry, stateOf, place}
+use Rattle.area.specs.State.{withRows, Entry, State, entry, stateOf, place}
 use Rattle.roles.specs.declared.RoleSet.{RoleSet}
 use Rattle.rows.specs.declared.OpenSets.{OpenSets}
 use Rattle.rows.specs.Stored.{held}
@@ -31,7 +31,7 @@ pub record Sound (l : List ℕ) : Type 0 where
   pub few : length (rowsIn l) ≤ mostRows
 
 abbrev pub holding : List ℕ → List Entry → State
-holding l es = record { roles = stateOf l .roles; rows = es }
+holding l es = withRows (stateOf l) es
 
 -- the row of number i, where there is one
 abbrev pub nth : ℕ → List Entry → Entry

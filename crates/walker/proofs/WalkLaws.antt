@@ -19,7 +19,7 @@ use Rattle.area.proofs.RowLaws.{row-good}
 use Rattle.area.proofs.Bytes.{good-state}
 use Rattle.table.specs.Table.{Sound, rowsIn, nth}
 use Rattle.table.proofs.RowWords.{sound}
-use Rattle.walker.specs.Walk.{walked, firstRow, given, none, handed, numberAfter, Walkable, startAnswer, started}
+use Rattle.walker.specs.Walk.{walked, firstRow, given, none, handed, numberAfter, Walkable, startAnswer, begun, goOnAt}
 use Rattle.walker.specs.declared.Handed.{Handed}
 
 good-or-bad : (l : List ℕ) {A : Type 0} → (goodBytes l ≡ true → A) → (goodBytes l ≡ false → A) → A
@@ -39,13 +39,21 @@ pub first-bad : (l : List ℕ) → goodBytes l ≡ false → firstRow l ≡ most
 unfolding firstRow
 first-bad l e = rw e
 
-pub started-good : (l : List ℕ) → goodBytes l ≡ true → started l ≡ record { answer = 0; row = 0 }
+pub begun-good : (l : List ℕ) → goodBytes l ≡ true → begun l ≡ record { answer = 0; row = 0 }
 unfolding startAnswer firstRow
-started-good l e = rw e
+begun-good l e = rw e
 
-pub started-bad : (l : List ℕ) → goodBytes l ≡ false → started l ≡ record { answer = 1; row = mostRows }
+pub begun-bad : (l : List ℕ) → goodBytes l ≡ false → begun l ≡ record { answer = 1; row = mostRows }
 unfolding startAnswer firstRow
-started-bad l e = rw e
+begun-bad l e = rw e
+
+pub goOnAt-good : (l : List ℕ) (i : ℕ) → goodBytes l ≡ true → goOnAt l i ≡ i
+unfolding goOnAt
+goOnAt-good l i e = rw e
+
+pub goOnAt-bad : (l : List ℕ) (i : ℕ) → goodBytes l ≡ false → goOnAt l i ≡ mostRows
+unfolding goOnAt
+goOnAt-bad l i e = rw e
 
 -- ---- the rows that are walked
 
@@ -88,13 +96,13 @@ module _ (l : List ℕ) (i : ℕ) where
   pub walk-past : mostRows ≤ i → handed l i ≡ none i
   walk-past h = past-walked (let m = walked-few l in omega arith)
 
--- ---- each number that a walk comes to may be asked for
+-- ---- the number that a walk starts or goes on with may be asked for
 
 pub first-walkable : (l : List ℕ) → Walkable l (firstRow l)
 first-walkable l = good-or-bad l (λ e _. sound l (rw e tt)) (λ e h. absurd (let q = first-bad l e in let z : ⊥ = omega arith in z))
 
-pub next-walkable : (l : List ℕ) (i : ℕ) → Walkable l i → Walkable l (handed l i .next)
-next-walkable l i w = good-or-bad l (λ e _. sound l (rw e tt)) (λ e h. w (rw (ap (λ (r : Handed). r .next) (walk-bad l i e)) at h))
+pub goOnAt-walkable : (l : List ℕ) (i : ℕ) → Walkable l (goOnAt l i)
+goOnAt-walkable l i = good-or-bad l (λ e _. sound l (rw e tt)) (λ e h. absurd (let q = goOnAt-bad l i e in let z : ⊥ = omega arith in z))
 
 -- ---- a whole walk: what is handed out after k rows were asked for
 

@@ -5,9 +5,12 @@
 --     none i             no row, and the number stays
 --     handed l i         what is handed out at number i
 --     numberAfter k l    the number after k rows were asked for, from the start on
---     Walkable l i       only a good area has a row of number i
---     startAnswer l      document 01's answer to a start
---     started l          what the code gives: that answer, and the number of the first row
+--     Walkable l i       row i may be asked for: i is 128 or more, or the area is good
+--     startAnswer l      the answer to a start: Rules, The lent area
+--     begun l            that answer, and the number of the first row
+--     started a          that answer, and the walker of the lent area a
+--     goOnAt l i         the number that a walk goes on with at i: of a bad area one that no row has
+--     resumed a i        the walker of the lent area a that goes on at i
 use mathlib.Core.Bool.{true, false, cond}
 use mathlib.Core.List.{List, []}
 use Prim.Native.Nat.{ℕ, zero, suc, _+_, _<_}
@@ -19,7 +22,10 @@ use Rattle.area.specs.State.{Entry}
 use Rattle.rows.specs.Stored.{storedRow}
 use Rattle.table.specs.Table.{Sound, rowsIn, nth}
 use Rattle.walker.specs.declared.Handed.{Handed}
+use denote.Ref.{RefT, now}
+use Rattle.walker.specs.declared.Begun.{Begun}
 use Rattle.walker.specs.declared.Started.{Started}
+use Rattle.walker.specs.declared.Walker.{Walker}
 
 unfoldable pub walked : List ℕ → List Entry
 walked l = cond (goodBytes l) (rowsIn l) []
@@ -46,5 +52,14 @@ Walkable l i = i < mostRows → Sound l
 unfoldable pub startAnswer : List ℕ → ℕ
 startAnswer l = cond (goodBytes l) 0 1
 
-abbrev pub started : List ℕ → Started
-started l = record { answer = startAnswer l; row = firstRow l }
+abbrev pub begun : List ℕ → Begun
+begun l = record { answer = startAnswer l; row = firstRow l }
+
+abbrev pub started : RefT (List ℕ) → Started
+started a = record { answer = startAnswer (now a); walker = record { area = a; next = firstRow (now a) } }
+
+unfoldable pub goOnAt : List ℕ → ℕ → ℕ
+goOnAt l i = cond (goodBytes l) i mostRows
+
+abbrev pub resumed : RefT (List ℕ) → ℕ → Walker
+resumed a i = record { area = a; next = goOnAt (now a) i }

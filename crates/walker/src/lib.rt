@@ -8,7 +8,7 @@ use table::permission_at;
 use table::row_at;
 use table::rows_used;
 ghost use mathlib.Core.Path.{_≡_};
-ghost use Rattle.walker.specs.Walk.{Walkable, firstRow, handed, started};
+ghost use Rattle.walker.specs.Walk.{Walkable, begun, started, goOnAt, resumed, handed};
 
 pub struct Walker<'a> {
     pub area: &'a [u8],
@@ -23,33 +23,42 @@ pub struct Handed {
     pub next: usize,
 }
 
-// The answer to a start, by document 01's number, and the number of the first row: of a bad area one that no row ever has.
-pub struct Started {
-    pub answer: u32,
-    pub row: usize,
+// The answer to a start, by its number, and the number of the first row: of a bad area one that no row ever has.
+struct Begun {
+    answer: u32,
+    row: usize,
 }
 
-pub fn begin(a: &[u8]) -> Started
-    ensures { λ r. ⌜ r ≡ started (now (a .entry)) ⌝ }
+// The answer to a start, and the walker; on a bad area it hands out no rows.
+pub struct Started<'a> {
+    pub answer: u32,
+    pub walker: Walker<'a>,
+}
+
+fn begin(a: &[u8]) -> Begun
+    ensures { λ r. ⌜ r ≡ begun (now (a .entry)) ⌝ }
 {
     if !check(a) {
-        return Started {
+        return Begun {
             answer: 1,
             row: MOST_ROWS,
         };
     }
-    Started { answer: 0, row: 0 }
+    Begun { answer: 0, row: 0 }
 }
 
-fn first_row(a: &[u8]) -> usize
-    ensures { λ r. ⌜ r ≡ firstRow (now (a .entry)) ⌝ }
+// The number that a walk goes on with: of a bad area one that no row ever has.
+fn go_on_at(a: &[u8], next: usize) -> usize
+    ensures { λ r. ⌜ r ≡ goOnAt (now (a .entry)) next ⌝ }
 {
-    let s = begin(a);
-    s.row
+    if !check(a) {
+        return MOST_ROWS;
+    }
+    next
 }
 
 // The row of a number, and the number of the next.
-pub fn hand(a: &[u8], next: usize) -> Handed
+fn hand(a: &[u8], next: usize) -> Handed
     requires { ⌜ Walkable (now a) next ⌝ }
     ensures { λ r. ⌜ r ≡ handed (now (a .entry)) next ⌝ }
 {
@@ -71,11 +80,22 @@ pub fn hand(a: &[u8], next: usize) -> Handed
     }
 }
 
-pub fn start<'a>(area: &'a [u8]) -> Walker<'a>
-    ensures { λ r. ⌜ (r .area ≡ area .entry) × (r .next ≡ firstRow (now (area .entry))) ⌝ }
+pub fn start<'a>(area: &'a [u8]) -> Started<'a>
+    ensures { λ r. ⌜ r ≡ started (area .entry) ⌝ }
 {
-    let next = first_row(area);
-    Walker { area, next }
+    let b = begin(area);
+    Started {
+        answer: b.answer,
+        walker: Walker { area, next: b.row },
+    }
+}
+
+// A walker at a number that one had come to. The area is checked anew, since nobody kept it in between.
+pub fn resume<'a>(area: &'a [u8], next: usize) -> Walker<'a>
+    ensures { λ r. ⌜ r ≡ resumed (area .entry) next ⌝ }
+{
+    let at = go_on_at(area, next);
+    Walker { area, next: at }
 }
 
 pub fn hand_out<'a>(w: Walker<'a>) -> Handed
@@ -83,19 +103,4 @@ pub fn hand_out<'a>(w: Walker<'a>) -> Handed
     ensures { λ r. ⌜ r ≡ handed (now (w .entry .area)) (w .entry .next) ⌝ }
 {
     hand(w.area, w.next)
-}
-
-// The walker of the same area at another row.
-pub fn moved<'a>(w: Walker<'a>, next: usize) -> Walker<'a>
-    ensures { λ r. ⌜ (r .area ≡ w .entry .area) × (r .next ≡ next) ⌝ }
-{
-    Walker { area: w.area, next }
-}
-
-// What a walker of the area hands out at a row's number. A caller of this one needs no walk by hand.
-pub fn row_of_walk(a: &[u8], next: usize) -> Handed
-    requires { ⌜ Walkable (now a) next ⌝ }
-    ensures { λ r. ⌜ r ≡ handed (now (a .entry)) next ⌝ }
-{
-    hand_out(Walker { area: a, next })
 }

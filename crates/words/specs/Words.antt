@@ -1,4 +1,5 @@
 -- A list of bytes read as words of 8 bytes, the least significant byte first, and written as such.
+--     Bytes l        every number of the list is a byte
 --     tab n f        f 0, f 1, .. : n of them
 --     number         bytes from a place on, as one number
 --     wordAt l i     the word of number i
@@ -10,9 +11,12 @@
 use mathlib.Core.Path.{_≡_}
 use mathlib.Core.Bool.{Bool, true, _&&_}
 use mathlib.Core.List.{List, [], _∷_, _++_}
-use Prim.Native.Nat.{ℕ, zero, suc, _+_, _*_, _/_, _%_, _≤_}
+use Prim.Native.Nat.{ℕ, zero, suc, _+_, _*_, _/_, _%_, _≤_, _<_}
 use lib.Dec.{eqb}
 use lib.ListN.{length, getD}
+
+abbrev pub Bytes : List ℕ → Type 0
+Bytes l = (p : ℕ) → getD l p 0 < 256
 
 abbrev pub tab : ℕ → (ℕ → ℕ) → List ℕ
 tab zero f = []

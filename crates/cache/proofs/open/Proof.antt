@@ -1,11 +1,11 @@
 -- `cache::open` meets its contract. Assumes nothing.
 use borrow.Author.Needs.{needs}
 use mathlib.Core.Path.{_≡_}
-use mathlib.Core.List.{[]}
 use native.Mathlib.Omega.{arith}
 use lib.ListN.{length}
 use Rattle.cache.proofs.Places.{bytes-are}
 use Rattle.area.specs.Layout.{areaBytes}
+use Rattle.area.specs.State.{opened}
 use Rattle.cache.proofs.Calling.{open-1, open-2, open-go}
 use Rattle.cache.proofs.open.Statement.{statement}
 use Rattle.cache.proofs.open.Tie as tie
@@ -24,7 +24,7 @@ returns-3 c =
     let end = k .clear-all .last .0 in
     let len : length end ≡ areaBytes = omega (arith, t .before .if1 .left) in
     open-go (s .args .a .now) (s .args .n) end (t .before .if1 .left) (t .if2 .left)
-    (bytes-are end (record { roles = s .args .n; rows = [] }) (λ p. c .slice-known2 .given p .fits) len (k .clear-all .ensures))
+    (bytes-are end (opened (s .args .n)) (λ p. c .slice-known2 .given p .fits) len (k .clear-all .ensures))
 
 pub open-spec : {M : Type 1} → statement M
 open-spec = tie.close (tie.spec returns returns-2 (λ c κs. search needs) (λ c. search needs) returns-3)

@@ -6,7 +6,7 @@ use mathlib.Core.List.{List}
 use Prim.Native.Nat.{ℕ, _≤_, _<_}
 use native.Mathlib.Omega.{arith}
 use lib.ListN.{length}
-use Rattle.words.proofs.Laws.{Bytes}
+use Rattle.words.specs.Words.{Bytes}
 use Rattle.meaning.specs.declared.Happening.{Happening}
 use Rattle.meaning.specs.Events.{known, isReply}
 use Rattle.meaning.specs.Rows.{Row, blank, fits, contradicts, step}

@@ -1,8 +1,6 @@
 -- `lines::read_line` meets its contract. Assumes nothing.
 use borrow.Author.Needs.{needs}
-use Prim.Native.Nat.{_<_, _^_}
 use native.Mathlib.Omega.{arith}
-use Rattle.answers.proofs.Texts.{length-answer}
 use Rattle.lines.proofs.Places.{end-inside, line-kept, line-answered}
 use Rattle.lines.proofs.read_line.Statement.{statement}
 use Rattle.lines.proofs.read_line.Tie as tie
@@ -10,35 +8,28 @@ use Rattle.lines.proofs.read_line.Tie as tie
 returns : tie.Need-returns
 returns c =
     let s = c .before .before .before .before .before .before .before .before .before in
-    line-kept (s .args .p) (s .args .area .now) (s .args .piece .now) (s .args .out .now) _ (s .pre .0) (c .before .before .before .line-end .ensures) (c .then .result) (let room = s .pre .1 in omega arith) (c .before .before .if1 .taken) (c .then .ensures)
+    line-kept (s .args .p) (s .args .area .now) (s .args .piece .now) (s .args .out .now) _ (s .pre) (c .before .before .before .line-end .ensures) (c .then .result) (c .before .before .if1 .taken) (c .then .ensures)
 
 part-asked-end : tie.Need-part-asked-end
 part-asked-end c =
     let s = c .before .before .before .before .before .before .before .before in
-    end-inside (s .args .p) (s .args .area .now) (s .args .piece .now) (s .args .out .now) _ (s .pre .0) (c .before .before .line-end .ensures)
+    end-inside (s .args .p) (s .args .area .now) (s .args .piece .now) (s .args .out .now) _ (s .pre) (c .before .before .line-end .ensures)
 
-write-answer-requires : tie.Need-write-answer-requires
-write-answer-requires c κs =
-    let s = c .before .before .before .before .before .before .before .before .before .before .before .before .before .before in
-    let number : s .args .p .run .number < 2 ^ 64 = search needs in
-    let answer : c .before .before .before .answer .result .answer < 2 ^ 32 = search needs in
-    omega (arith, length-answer (s .args .p .run .number) (c .before .before .before .answer .result .answer) number answer, s .pre .1)
-
-add-t12 : tie.Need-add-t12
-add-t12 c =
-    let s = c .before .before .before .before .before .before .before .before .before .before .before .before .before .before .before .before .before .before .before in
-    let inside = end-inside (s .args .p) (s .args .area .now) (s .args .piece .now) (s .args .out .now) _ (s .pre .0) (c .before .before .before .before .before .before .before .before .before .before .before .before .before .line-end .ensures) in
-    let other = c .before .before .before .before .before .before .before .before .before .before .before .before .if1 .left in
+add-t11 : tie.Need-add-t11
+add-t11 c =
+    let s = c .before .before .before .before .before .before .before .before .before .before .before .before .before .before .before .before .before .before in
+    let inside = end-inside (s .args .p) (s .args .area .now) (s .args .piece .now) (s .args .out .now) _ (s .pre) (c .before .before .before .before .before .before .before .before .before .before .before .before .line-end .ensures) in
+    let other = c .before .before .before .before .before .before .before .before .before .before .before .if1 .left in
     omega arith
 
 returns-2 : tie.Need-returns-2
 returns-2 c =
-    let s = c .before .before .before .before .before .before .before .before .before .before .before .before .before .before .before .before .before .before .before in
-    line-answered (s .args .p) (s .args .area .now) (s .args .piece .now) (s .args .out .now) _ (s .pre .0) (c .before .before .before .before .before .before .before .before .before .before .before .before .before .line-end .ensures) (c .before .before .before .before .before .before .before .before .before .before .before .before .if1 .left) _ _ _ _ _ _ _ (c .before .before .before .before .before .before .before .before .before .asked .ensures) (c .before .before .before .before .before .before .before .before .answer .ensures) (c .before .new .ensures) (c .wrapping-add-u64 .ensures) (write-answer-requires (c .before .before .before .before .before) (c .before .before .before .before .write-answer .lifetimes)) (c .before .before .before .before .write-answer .ensures)
+    let s = c .before .before .before .before .before .before .before .before .before .before .before .before .before .before .before .before .before .before in
+    line-answered (s .args .p) (s .args .area .now) (s .args .piece .now) (s .args .out .now) _ (s .pre) (c .before .before .before .before .before .before .before .before .before .before .before .before .line-end .ensures) (c .before .before .before .before .before .before .before .before .before .before .before .if1 .left) _ _ _ _ _ _ (c .before .before .before .before .before .before .before .before .asked .ensures) (c .before .before .before .before .before .before .answer .ensures) (c .before .new .ensures) (c .wrapping-add-u64 .ensures)
 
 pub read-line-spec : {M : Type 1} → statement M
 read-line-spec =
     tie.close
     (tie.spec (λ c κs. search needs) (λ c. search needs) (λ c. search needs) (λ c. search needs) (λ c κs. search needs) returns
-    (λ c. search needs) (λ c. search needs) part-asked-end (λ c κs. search needs) (λ c κs. search needs) write-answer-requires
-    (λ c κs. search needs) (λ c κs. search needs) add-t12 (λ c. search needs) (λ c. search needs) returns-2)
+    (λ c. search needs) (λ c. search needs) part-asked-end (λ c κs. search needs) (λ c κs. search needs) (λ c κs. search needs) (λ c κs. search needs)
+    add-t11 (λ c. search needs) (λ c. search needs) returns-2)

@@ -1,11 +1,9 @@
 -- `opens::stand_apart` meets its contract: the sets passed stand apart. Assumes nothing.
 use borrow.Author.Needs.{needs}
-use borrow.Author.Tests.{lt-ltb, le-ltb}
 use mathlib.Core.Path.{_≡_, refl, sym, ap, ap₂, _∙_}
 use mathlib.Core.Bool.{Bool, true, false, not, _&&_}
 use Prim.Native.Nat.{ℕ, _+_, _-_, _<_}
 use native.Mathlib.Omega.{arith}
-use lib.Dec.{ltb}
 use lib.ListN.{length, getD, take, drop}
 use Rattle.words.specs.Words.{words}
 use Rattle.words.proofs.Laws.{length-words}
@@ -13,7 +11,6 @@ use Rattle.words.proofs.Runs.{spans-again, run-take}
 use Rattle.meaning.specs.Rows.{hasPart}
 use Rattle.opens.specs.Parts.{standApart}
 use Rattle.opens.proofs.OpensLaws.{apart-one, apart-fewer, apart-broken, apart-first}
-use Rattle.opens.proofs.SearchLaws.{part-itself, search-most, search-parts}
 use Rattle.opens.proofs.stand_apart.Statement.{statement}
 use Rattle.opens.proofs.stand_apart.Tie as tie
 
@@ -31,19 +28,14 @@ get-word-requires c κs =
     let p = c .before .before .before .pre in
     spans-again p refl (let h = p .enough in omega arith)
 
-first-part-requires : tie.Need-first-part-requires Inv-loop μ-loop
-first-part-requires c κs =
-    let at = c .before .before .loop in
-    let s = c .before .before .before .before in
-    let a = s .args .a .now in
-    let b = s .pre .enough in
-    let h = search-most (c .get-word .result) (words a) (s .args .at) (at .i) 0 (omega (arith, length-words a)) (omega arith)
-    (part-itself (c .get-word .result) (getD (words a) (s .args .at + at .i) 0) (c .get-word .ensures)) in
-    spans-again (s .pre) refl (omega arith)
+has-part-requires : tie.Need-has-part-requires Inv-loop μ-loop
+has-part-requires c κs =
+    let p = c .before .before .before .before .pre in
+    spans-again p refl (let h = p .enough in omega arith)
 
 -- with one set more, by what the search found
-apart-next : (c : tie.After-first-part Inv-loop μ-loop) (t : Bool) → let s = c .before .before .before .before .before .args in let i = c .before .before .before .loop .i in
-    ltb (c .first-part .result) i ≡ t → standApart (take (i + 1) (drop (s .at) (words (s .a .now)))) ≡ not t
+apart-next : (c : tie.After-has-part Inv-loop μ-loop) (t : Bool) → let s = c .before .before .before .before .before .args in let i = c .before .before .before .loop .i in
+    c .has-part .result ≡ t → standApart (take (i + 1) (drop (s .at) (words (s .a .now)))) ≡ not t
 apart-next c t e =
     let at = c .before .before .before .loop in
     let s = c .before .before .before .before .before in
@@ -54,18 +46,16 @@ apart-next c t e =
     let b : s .args .at + at .i < length ws = omega (arith, length-words (s .args .a .now)) in
     ap standApart (run-take ws (s .args .at) (at .i) b)
     ∙ apart-one before (getD ws (s .args .at + at .i) 0)
-    ∙ ap₂ (λ (p q : Bool). p && not q) (at .inv)
-    (ap (λ (x : ℕ). hasPart x before) (sym (o .ensures)) ∙ sym (search-parts (o .result) ws (s .args .at) (at .i) (c .first-part .result) (omega arith) (c .first-part .ensures)) ∙ e)
+    ∙ ap₂ (λ (p q : Bool). p && not q) (at .inv) (ap (λ (x : ℕ). hasPart x before) (sym (o .ensures)) ∙ sym (c .has-part .ensures) ∙ e)
 
 returns : tie.Need-returns Inv-loop μ-loop
 returns c =
     let at = c .before .before .before .before .loop in
     let s = c .before .before .before .before .before .before in
-    apart-broken (at .i + 1) (s .args .c) (drop (s .args .at) (words (s .args .a .now))) (search needs)
-    (apart-next (c .before) true (lt-ltb (c .before .first-part .result) (at .i) (c .if1 .taken)))
+    apart-broken (at .i + 1) (s .args .c) (drop (s .args .at) (words (s .args .a .now))) (search needs) (apart-next (c .before) true (c .if1 .taken))
 
 loop-again : tie.Need-loop-again Inv-loop μ-loop
-loop-again c = apart-next (c .before) false (le-ltb (c .before .first-part .result) (c .before .before .before .before .loop .i) (c .if1 .left))
+loop-again c = apart-next (c .before) false (c .if1 .left)
 
 returns-2 : tie.Need-returns-2 Inv-loop μ-loop
 returns-2 c =
@@ -76,4 +66,4 @@ returns-2 c =
 pub stand-apart-spec : {M : Type 1} → statement M
 stand-apart-spec =
     tie.close
-    (tie.spec Inv-loop μ-loop loop-holds (λ c. search needs) get-word-requires first-part-requires returns (λ c. search needs) (λ c. search needs) loop-again returns-2)
+    (tie.spec Inv-loop μ-loop loop-holds (λ c. search needs) get-word-requires has-part-requires returns (λ c. search needs) (λ c. search needs) loop-again returns-2)

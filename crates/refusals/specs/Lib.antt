@@ -1,0 +1,2 @@
+-- What the definitions of calls cite.
+pub mod Refusals
