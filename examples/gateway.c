@@ -1,7 +1,8 @@
 /* A gateway with a simulated head office behind a link that goes down.
  *
  * While the link is up the head office decides, and the gateway feeds its replies and policy updates to the cache.
- * While it is down the gateway decides from the cache, and refuses what the cache cannot decide.
+ * While it is down the gateway decides from the cache, refuses what the cache cannot decide, and says whom to ask
+ * about.
  * Every answer of the cache is treated here; take the functions under "the gateway" as a pattern. */
 #include <wickthrush.h>
 
@@ -17,6 +18,15 @@ enum { VALVE = 1, DOSE, METER, PERMISSIONS };
 
 static const char *const deeds[PERMISSIONS] = {
     [VALVE] = "open the sludge valve", [DOSE] = "change the dose", [METER] = "read the meter"};
+
+static void print_role(uint32_t role)
+{
+    static const char *const names[] = {"operator", "fitter", "chemist", "electrician"};
+    if (role < sizeof names / sizeof names[0])
+        printf("%s", names[role]);
+    else
+        printf("role %u", (unsigned)role);
+}
 
 /* ---- the head office: it has the true policy, which the gateway never sees */
 
@@ -130,14 +140,20 @@ static void hear_update(struct gateway *gateway, const struct update *update)
 /* Decides without the head office: only a proved allow lets anyone in. */
 static bool decide_alone(struct gateway *gateway, uint32_t permission, uint64_t session)
 {
-    uint32_t answer = wickthrush_decide(gateway->area, sizeof gateway->area, permission, session);
-    switch (answer) {
+    wickthrush_decided decided = wickthrush_decide(gateway->area, sizeof gateway->area, permission, session);
+    switch (decided.answer) {
     case WICKTHRUSH_ALLOW: printf("    allowed: all that was heard leaves no other answer\n"); return true;
     case WICKTHRUSH_DENY: printf("    refused: none of these roles holds it\n"); return false;
-    case WICKTHRUSH_UNDECIDED: printf("    refused: not known, and nobody to ask\n"); return false;
+    case WICKTHRUSH_UNDECIDED:
+        /* The operator has a phone where the gateway has no link. What is told there is a reply like any other: feed
+         * it only after the updates that wait. */
+        printf("    refused: not known; by phone, ask about ");
+        print_role(decided.role);
+        printf("\n");
+        return false;
     default:
         printf("    refused: the cache could not be asked\n");
-        mend(gateway, answer);
+        mend(gateway, decided.answer);
         return false;
     }
 }
@@ -146,15 +162,12 @@ static bool decide_alone(struct gateway *gateway, uint32_t permission, uint64_t 
 
 static void print_session(uint64_t session)
 {
-    static const char *const names[] = {"operator", "fitter", "chemist", "electrician"};
     const char *between = "";
     for (unsigned role = 0; role < ROLES; role++) {
         if ((session & ONLY(role)) == 0)
             continue;
-        if (role < sizeof names / sizeof names[0])
-            printf("%s%s", between, names[role]);
-        else
-            printf("%srole %u", between, role);
+        printf("%s", between);
+        print_role(role);
         between = " and ";
     }
 }
@@ -233,6 +246,8 @@ int main(void)
     link_goes_down(&gateway);
     request(&gateway, &office, ONLY(FITTER), VALVE);
     request(&gateway, &office, ONLY(OPERATOR), VALVE);
+    /* Of the two the operator is known not to hold it, so there is only the fitter to ask about. */
+    request(&gateway, &office, ONLY(OPERATOR) | ONLY(FITTER), VALVE);
 
     /* A gateway without a link cannot know of this; it goes by what it heard last. */
     change(&gateway, &office, (struct update){DOSE, WICKTHRUSH_GIVEN, ELECTRICIAN});

@@ -1,10 +1,12 @@
 /* Wickthrush: a cache of access decisions that lives in memory lent by the caller.
  *
- * Every answer of wickthrush_decide is nonzero, deny and undecided too: compare it with WICKTHRUSH_ALLOW, and refuse
- * on anything else. The other calls are done where they answer WICKTHRUSH_RECORDED, which is 0.
+ * Every answer of wickthrush_decide is nonzero, deny and undecided too: compare it with WICKTHRUSH_ALLOW, as in
+ * wickthrush_decide(..).answer == WICKTHRUSH_ALLOW, and refuse on anything else; the role beside it only says whom to
+ * ask about.
+ * The other calls are done where they answer WICKTHRUSH_RECORDED, which is 0.
  *
  * It takes the replies of a decision point and policy updates, and decides requests from them: allow or deny
- * where every assignment of roles that agrees with them says so, undecided otherwise.
+ * where every assignment of roles that agrees with them says so, undecided otherwise, with a role to ask about.
  *
  * Roles are 0 to n - 1, where n is the role count. A role set is a number: role r is its bit of weight 2^r, which is
  * UINT64_C(1) << r. A permission is any number but 0.
@@ -36,7 +38,7 @@ extern "C" {
 #endif
 
 #define WICKTHRUSH_VERSION_MAJOR 0
-#define WICKTHRUSH_VERSION_MINOR 2
+#define WICKTHRUSH_VERSION_MINOR 3
 #define WICKTHRUSH_VERSION_PATCH 0
 
 /* The bytes of the lent area. */
@@ -46,6 +48,9 @@ extern "C" {
 #define WICKTHRUSH_MOST_ROLES 64
 #define WICKTHRUSH_MOST_ROWS 128
 #define WICKTHRUSH_MOST_OPEN_SETS 15
+
+/* No role, as wickthrush_decide gives it with every answer but undecided. It is no bit of a set: do not shift by it. */
+#define WICKTHRUSH_NO_ROLE 64
 
 enum wickthrush_verdict { WICKTHRUSH_REPLY_DENY = 0, WICKTHRUSH_REPLY_ALLOW = 1 };
 
@@ -122,7 +127,12 @@ WICKTHRUSH_MUST_USE uint32_t wickthrush_reply(uint8_t *area, size_t len, uint32_
 WICKTHRUSH_MUST_USE uint32_t wickthrush_update(uint8_t *area, size_t len, uint32_t permission, uint64_t kind,
                                                uint64_t role);
 
-/* Decides whether a session with the roles of set may use the permission. Never changes the area.
+/* What wickthrush_decide gives: one of its answers, and the role to ask about where that is WICKTHRUSH_UNDECIDED. */
+typedef struct {
+    uint32_t answer, role;
+} wickthrush_decided;
+
+/* Decides whether a session with the roles of set may use the permission. Never changes the area. Its answers:
  *
  * WICKTHRUSH_DENY           under every possible assignment it may not; always so for the empty set
  * WICKTHRUSH_ALLOW          under every possible assignment it may
@@ -130,8 +140,14 @@ WICKTHRUSH_MUST_USE uint32_t wickthrush_update(uint8_t *area, size_t len, uint32
  * WICKTHRUSH_BAD_AREA       len is wrong or the bytes are no area
  * WICKTHRUSH_NO_PERMISSION  permission is 0
  * WICKTHRUSH_UNKNOWN_ROLE   set has a role at or above the role count
+ *
+ * With WICKTHRUSH_UNDECIDED the role is the lowest of set that is not known to be denied: it holds the permission under
+ * some possible assignment, and no lower role of set does under any. Log it, and show it to the operator, who can ask
+ * about it by phone: "undecided, ask about role 5". With every other answer, refusals too, it is WICKTHRUSH_NO_ROLE.
+ * Role 0 is a role: look at the answer, not at the role.
  */
-WICKTHRUSH_MUST_USE uint32_t wickthrush_decide(const uint8_t *area, size_t len, uint32_t permission, uint64_t set);
+WICKTHRUSH_MUST_USE wickthrush_decided wickthrush_decide(const uint8_t *area, size_t len, uint32_t permission,
+                                                         uint64_t set);
 
 /* Forgets everything about a permission.
  *

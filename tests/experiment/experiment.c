@@ -158,8 +158,8 @@ static void test(const struct setup *setup, unsigned level, struct result *resul
         const uint8_t *area = areas[p / WICKTHRUSH_MOST_ROWS];
         hits[EXACT] += answered[same_session[u] * setup->permissions + p];
         hits[UNLIMITED] += is_hit(unlimited_decide(&rows[p], session[u]), allowed);
-        hits[SEVERAL] += is_hit(wickthrush_decide(area, sizeof areas[0], p + 1, session[u]), allowed);
-        hits[ONE] += is_hit(wickthrush_decide(one, sizeof one, p + 1, session[u]), allowed);
+        hits[SEVERAL] += is_hit(wickthrush_decide(area, sizeof areas[0], p + 1, session[u]).answer, allowed);
+        hits[ONE] += is_hit(wickthrush_decide(one, sizeof one, p + 1, session[u]).answer, allowed);
     }
     for (size_t c = 0; c < CURVES; c++)
         result->hit[c][level] = 100.0 * hits[c] / TESTS;

@@ -32,16 +32,24 @@ static void shown(char *text, size_t room, const uint8_t *at, size_t count)
     text[used] = 0;
 }
 
-static unsigned long times[13];
+enum { ANSWERS = 13, ROLES = 64 };
+static unsigned long times[ANSWERS], with_role[ANSWERS], asked[ROLES];
 
-/* Answers that were to come, so that none goes untried. */
+/* Answers that were to come, and roles behind them, so that none goes untried. */
 static void count_answer(const uint8_t *line)
 {
-    char *space;
-    strtoull((const char *)line, &space, 10);
-    unsigned long answer = strtoul(space, NULL, 10);
-    if (line[0] != '=' && answer < 13)
-        times[answer]++;
+    char *at;
+    strtoull((const char *)line, &at, 10);
+    unsigned long answer = strtoul(at, &at, 10);
+    if (line[0] == '=' || answer >= ANSWERS)
+        return;
+    times[answer]++;
+    if (*at == '\n')
+        return;
+    with_role[answer]++;
+    unsigned long role = strtoul(at, NULL, 10);
+    if (role < ROLES)
+        asked[role]++;
 }
 
 /* Counts each line that is the same; says where the first other one is. */
@@ -291,6 +299,41 @@ static void pieces(void)
     }
 }
 
+/* Lines and what is printed behind their number, by the Rules alone. */
+static void third_field(void)
+{
+    static const struct {
+        const char *line, *printed;
+    } lines[] = {
+        {"Q 5 0", "1"},       {"O 64", "0"},         {"Q 5 -", "10"},       {"Q 5 0", "12 0"},
+        {"Q 5 63", "12 63"},  {"Q 5 0,63", "12 0"},  {"Q 5 9,10", "12 9"},  {"Q 5 10,11", "12 10"},
+        {"Q 12 12", "12 12"}, {"Q 0 0", "3"},        {"Q 5 64", "9"},       {"Q 5 0 0", "9"},
+        {"D 5 0,1", "0"},     {"Q 5 0,1", "10"},     {"Q 5 0,2", "12 2"},   {"Q 5 1,63", "12 63"},
+        {"A 5 62,63", "0"},   {"Q 5 0,62,63", "11"}, {"Q 5 1,63", "12 63"}, {"Q 5 0,61,62", "12 61"},
+        {"D 5 62,63", "6"},   {"R 5 62", "0"},       {"Q 5 62", "10"},      {"Q 5 62,63", "12 63"},
+        {"G 5 63", "0"},      {"Q 5 2,63", "11"},    {"Q 5 2,62", "12 2"},  {"S", "0\n= 5 0,1,62 63"},
+        {"F 5", "0"},         {"Q 5 0,63", "12 0"},  {"O 8", "0"},          {"Q 5 7", "12 7"},
+        {"Q 5 7,8", "4"},     {"Q 0 8", "3"},        {"O 65", "2"},
+    };
+    static struct bytes in, want;
+    size_t count = sizeof lines / sizeof lines[0];
+    group("a third field, the role to ask about: with 12 and nowhere else");
+    clear(&in);
+    clear(&want);
+    for (size_t i = 0; i < count; i++) {
+        putf(&in, "%s\n", lines[i].line);
+        putf(&want, "%zu %s\n", i + 1, lines[i].printed);
+    }
+    /* all roles, of which all but the last are denied */
+    putf(&in, "O 64\nD 4294967295 ");
+    put_set(&in, UINT64_MAX >> 1);
+    putf(&in, "\n");
+    put_longest(&in, 'Q');
+    putf(&want, "%zu 0\n%zu 0\n%zu 12 63\n", count + 1, count + 2, count + 3);
+    compare_with(&in, from_file, &want);
+    compare(&in, from_file);
+}
+
 /* 15 one-role open sets in the row of `p`, and rows beside it; the answers follow by their number alone.
  * The second program can't come here: with its 6 roles no update makes a 16th open set. */
 static void put_sixteenth(struct bytes *in, struct bytes *want)
@@ -318,7 +361,7 @@ static void put_sixteenth(struct bytes *in, struct bytes *want)
     for (unsigned role = 0; role < n; role++)
         if (roles >> role & 1)
             putf(want, " %u", role);
-    putf(want, "\n= %lu - 1\n20 7\n21 11\n22 8\n23 12\n24 0\n", (unsigned long)p + 1);
+    putf(want, "\n= %lu - 1\n20 7\n21 11\n22 8\n23 12 %u\n24 0\n", (unsigned long)p + 1, held);
     putf(want, "= %lu 0\n= %lu - 1\n", (unsigned long)p - 1, (unsigned long)p + 1);
 }
 
@@ -426,12 +469,15 @@ static void speed(void)
 /* 5 is out of reach of a line: its letter is its verdict. */
 static void every_answer(void)
 {
-    group("every answer but 5 came up");
+    group("every answer but 5 came up, and every role behind 12");
     printf("answers:");
-    for (unsigned i = 0; i < 13; i++) {
-        printf(" %u %lu times%s", i, times[i], i < 12 ? "," : "\n");
+    for (unsigned i = 0; i < ANSWERS; i++) {
+        printf(" %u %lu times%s", i, times[i], i < ANSWERS - 1 ? "," : "\n");
         check(i == 5 ? times[i] == 0 : times[i] > 0, "answer %u, %lu times", i, times[i]);
+        check(with_role[i] == (i == 12 ? times[i] : 0), "answer %u, %lu times with a role", i, with_role[i]);
     }
+    for (unsigned role = 0; role < ROLES; role++)
+        check(asked[role] > 0, "no role %u", role);
 }
 
 static int print_expected(void)
@@ -466,6 +512,7 @@ int main(int count, char **words)
     boundaries();
     pieces();
     random_streams();
+    third_field();
     sixteenth_set();
     much_output();
     closed_output();

@@ -220,13 +220,20 @@ static uint32_t ask_decide(struct reader *reader, const struct line *line)
     const struct second *second = &reader->second;
     uint32_t permission = (uint32_t)line->number;
     if (!below(line->set, reader->n))
-        return second_decide(second, SECOND_BYTES, permission, UINT64_C(1) << second->n);
-    uint32_t answer = second_decide(second, SECOND_BYTES, permission, inside(groups, line->set));
+        return second_decide(second, SECOND_BYTES, permission, UINT64_C(1) << second->n).answer;
+    uint32_t answer = second_decide(second, SECOND_BYTES, permission, inside(groups, line->set)).answer;
     if (answer < 10 || answer == 11)
         return answer;
     uint64_t near = touched(groups, line->set);
     bool all_named = (line->set & ~joined(groups, near)) == 0;
-    return all_named && second_decide(second, SECOND_BYTES, permission, near) == 10 ? 10 : 12;
+    return all_named && second_decide(second, SECOND_BYTES, permission, near).answer == 10 ? 10 : 12;
+}
+
+/* The lowest role of a session outside the groups that no possible holder set shares a role with. */
+static uint32_t role_to_ask(struct reader *reader, const struct line *line)
+{
+    uint64_t may_hold = second_may_hold(second_possible(&reader->second, (uint32_t)line->number));
+    return second_lowest(line->set & ~joined(groups_of(reader, line->number), ~may_hold));
 }
 
 static uint32_t ask(struct reader *reader, const struct line *line)
@@ -293,7 +300,10 @@ bool expect(const struct bytes *in, struct bytes *out)
     clear(out);
     for (size_t i = 0; i < count && reached; i++) {
         uint32_t answer = ask(&reader, &line[i]);
-        putf(out, "%zu %lu\n", i + 1, (unsigned long)answer);
+        putf(out, "%zu %lu", i + 1, (unsigned long)answer);
+        if (answer == 12)
+            putf(out, " %lu", (unsigned long)role_to_ask(&reader, &line[i]));
+        putf(out, "\n");
         if (answer == 0 && line[i].letter == 'S')
             write_rows(&reader, out);
         if (opens(&line[i]))

@@ -35,7 +35,7 @@ static void put_on_role(struct bytes *in, char letter, uint64_t permission, uint
 /* Each is unreadable or changes nothing, and none tells roles of a permission apart. */
 static const char *const odd_lines[] = {
     /* no letter */
-    "", " ", "-", "0", "1", "=", "= 5 - 3", "#", "//", "X", "X 5", "\r", "\t",
+    "", " ", "-", "0", "1", "9 12 5", "=", "= 5 - 3", "#", "//", "X", "X 5", "\r", "\t",
     /* open */
     "O", "O ", "O  ", "O -", "O x", "O 08", "O 008", "O 8 ", " O 8", "O  8", "O 8 8", "O 256", "O 264", "O 65", "O 0",
     "O 00", "O 255", "O 1000", "O 4294967304", "O 18446744073709551624", "O +8", "O -8", "O 8.", "O 8,", "O 8-", "o 8",

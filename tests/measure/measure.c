@@ -13,7 +13,7 @@
 bool CHECK(const uint8_t *area, size_t len);
 #endif
 #ifdef DECIDE
-uint32_t DECIDE(const uint8_t *area, size_t len, uint32_t permission, uint64_t set);
+struct yardstick_decided DECIDE(const uint8_t *area, size_t len, uint32_t permission, uint64_t set);
 #endif
 #ifdef REPLY
 uint32_t REPLY(uint8_t *area, size_t len, uint32_t permission, uint64_t verdict, uint64_t set);
@@ -44,7 +44,7 @@ static uint32_t check(void)
 }
 #elif defined DECIDE
 /* Permission 0 is refused right after the check. */
-static uint32_t check(void)
+static struct yardstick_decided check(void)
 {
     return DECIDE(area, AREA_BYTES, 0, 0);
 }
@@ -52,7 +52,7 @@ static uint32_t check(void)
 
 #ifdef DECIDE
 /* Undecided: every open set of the last row is looked at. */
-static uint32_t decide(void)
+static struct yardstick_decided decide(void)
 {
     return DECIDE(area, AREA_BYTES, permission, UINT64_C(1) << FREE_ROLE);
 }
@@ -110,26 +110,30 @@ static uint32_t new_row(void)
 }
 #endif
 
-static const struct {
+/* Each gives what its call gives, so that it ends in a jump to the call, and adds nothing to it. */
+static const struct call {
     const char *name;
     uint32_t (*run)(void);
+    struct yardstick_decided (*decides)(void);
 } calls[] = {
-    {"nothing", nothing},
-    {"thousand", thousand},
-#if defined CHECK || defined DECIDE
-    {"check", check},
+    {"nothing", nothing, NULL},
+    {"thousand", thousand, NULL},
+#if defined CHECK
+    {"check", check, NULL},
+#elif defined DECIDE
+    {"check", NULL, check},
 #endif
 #ifdef DECIDE
-    {"decide", decide},
+    {"decide", NULL, decide},
 #endif
 #ifdef REPLY
-    {"reply-deny", reply_deny},
-    {"reply-allow", reply_allow},
-    {"deny-strikes", deny_strikes},
-    {"allow-drops", allow_drops},
-    {"allow-first", allow_first},
-    {"allow-last", allow_last},
-    {"new-row", new_row},
+    {"reply-deny", reply_deny, NULL},
+    {"reply-allow", reply_allow, NULL},
+    {"deny-strikes", deny_strikes, NULL},
+    {"allow-drops", allow_drops, NULL},
+    {"allow-first", allow_first, NULL},
+    {"allow-last", allow_last, NULL},
+    {"new-row", new_row, NULL},
 #endif
 };
 
@@ -161,11 +165,11 @@ int main(int argc, char **argv)
 {
     if (argc != 6)
         stop("usage: measure CALL ROWS OPENS own|pairs|turned|crossed TIMES");
-    uint32_t (*run)(void) = NULL;
+    const struct call *call = NULL;
     for (size_t k = 0; k < sizeof calls / sizeof calls[0]; k++)
         if (strcmp(argv[1], calls[k].name) == 0)
-            run = calls[k].run;
-    if (run == NULL)
+            call = &calls[k];
+    if (call == NULL)
         stop("no such call");
     unsigned rows = number(argv[2], MOST_ROWS);
     unsigned opens = number(argv[3], MOST_OPENS);
@@ -182,10 +186,16 @@ int main(int argc, char **argv)
     }
 
     uint32_t answer = 0;
-    for (unsigned k = 0; k < times; k++) {
-        memcpy(area, before, AREA_BYTES);
-        answer = run();
-    }
+    if (call->decides != NULL)
+        for (unsigned k = 0; k < times; k++) {
+            memcpy(area, before, AREA_BYTES);
+            answer = call->decides().answer;
+        }
+    else
+        for (unsigned k = 0; k < times; k++) {
+            memcpy(area, before, AREA_BYTES);
+            answer = call->run();
+        }
 
     if (!yardstick_good(area, AREA_BYTES))
         stop("the call left a bad area");

@@ -1,4 +1,4 @@
-/* Drives the library and the second program side by side: answers, verdicts and bytes must be the same. */
+/* Drives the library and the second program side by side: answers, roles to ask about and bytes must be the same. */
 #include "groups.h"
 #include "second.h"
 #include "wickthrush.h"
@@ -24,7 +24,7 @@ struct pair {
     uint8_t area[BYTES];
 };
 
-static unsigned long times[ANSWERS];
+static unsigned long times[ANSWERS], asked[SECOND_NO_ROLE + 1];
 
 static uint32_t ask_library(uint8_t *area, const struct call *c)
 {
@@ -63,20 +63,29 @@ static uint32_t both(struct pair *pair, const struct call *c)
     return expected;
 }
 
-static void compare_decision(const struct pair *pair, uint32_t permission, uint64_t set)
+/* Makes a decide on the library's side. */
+static void expect_decision(const uint8_t *area, size_t len, uint32_t permission, uint64_t set,
+                            struct second_decided expected)
 {
-    uint32_t expected = second_decide(&pair->second, BYTES, permission, set);
-    uint32_t answer = wickthrush_decide(pair->area, BYTES, permission, set);
-    check(answer == expected, "decide, permission %lu, set %#llx: %lu instead of %lu", (unsigned long)permission,
-          (unsigned long long)set, (unsigned long)answer, (unsigned long)expected);
-    times[expected]++;
+    wickthrush_decided decided = wickthrush_decide(area, len, permission, set);
+    check(decided.answer == expected.answer && decided.role == expected.role,
+          "decide, permission %lu, set %#llx: %lu with role %lu instead of %lu with role %lu",
+          (unsigned long)permission, (unsigned long long)set, (unsigned long)decided.answer,
+          (unsigned long)decided.role, (unsigned long)expected.answer, (unsigned long)expected.role);
+    times[expected.answer]++;
+    asked[expected.role]++;
+}
+
+static void compare_decision(const struct pair *pair, size_t len, uint32_t permission, uint64_t set)
+{
+    expect_decision(pair->area, len, permission, set, second_decide(&pair->second, len, permission, set));
 }
 
 /* Every session of a permission. */
 static void compare_sessions(const struct pair *pair, uint32_t permission)
 {
     for (uint64_t set = 0; set < UINT64_C(1) << pair->second.n; set++)
-        compare_decision(pair, permission, set);
+        compare_decision(pair, BYTES, permission, set);
 }
 
 static void compare_bytes(const struct pair *pair)
@@ -310,10 +319,13 @@ static void spoil(struct call *c, uint64_t n)
 static void compare_odd_decisions(const struct pair *pair, const struct style *style)
 {
     uint32_t permission = style->permission[any_below(style->permissions)];
-    compare_decision(pair, permission, odd_set(pair->second.n));
-    compare_decision(pair, 0, odd_set(pair->second.n));
+    uint64_t n = pair->second.n;
     size_t len = ANY_OF(odd_lengths);
-    check(wickthrush_decide(pair->area, len, 0, UINT64_MAX) == 1, "decide with length %zu isn't 1", len);
+    compare_decision(pair, BYTES, permission, odd_set(n));
+    compare_decision(pair, BYTES, 0, odd_set(n));
+    compare_decision(pair, BYTES, 0, any_set(n));
+    compare_decision(pair, len, 0, UINT64_MAX);
+    compare_decision(pair, len, permission, any_set(n));
 }
 
 /* Every permission of the stream, or only a few of very many. */
@@ -327,7 +339,7 @@ static void compare_all(const struct pair *pair, const struct style *style)
         return;
     }
     for (size_t i = 0; i < style->permissions; i++)
-        compare_decision(pair, style->permission[i], any_set(pair->second.n));
+        compare_decision(pair, BYTES, style->permission[i], any_set(pair->second.n));
 }
 
 /* Two areas in turn, so that nothing kept outside them can go unseen. */
@@ -340,6 +352,7 @@ static void stream(const struct style *style, uint64_t n, unsigned calls, unsign
             pairs[k].area[i] = (uint8_t)any();
         struct call early = any_call(style, n);
         both(&pairs[k], &early);
+        compare_decision(&pairs[k], BYTES, style->permission[0], any_set(n));
         open_pair(&pairs[k], n);
     }
     for (unsigned i = 1; i <= calls; i++) {
@@ -406,22 +419,27 @@ static uint64_t renamed(const struct renaming *to, uint64_t set)
     return other;
 }
 
+/* By their new names another role can be the lowest. */
+static struct second_decided far_decided(uint32_t answer, uint64_t may_hold)
+{
+    return (struct second_decided){answer, answer == 12 ? second_lowest(may_hold) : SECOND_NO_ROLE};
+}
+
 static void far_sessions(const struct second *second, const uint8_t *area, const struct renaming *to,
                          uint32_t permission)
 {
     uint64_t all = to->n == 64 ? UINT64_MAX : (UINT64_C(1) << to->n) - 1;
+    uint64_t may_hold = second_may_hold(second_possible(second, permission));
     for (uint64_t set = 0; set < 1 << SECOND_ROLES; set++) {
-        uint32_t near = second_decide(second, BYTES, permission, set);
-        check(wickthrush_decide(area, BYTES, permission, renamed(to, set)) == near, "far session %#llx",
-              (unsigned long long)set);
-        uint64_t more = any() & all & ~to->named;
-        uint32_t expected = more == 0 || near == 11 ? near : 12;
-        check(wickthrush_decide(area, BYTES, permission, renamed(to, set) | more) == expected,
-              "far session %#llx with unnamed roles", (unsigned long long)set);
+        uint32_t near = second_decide(second, BYTES, permission, set).answer;
+        uint64_t far = renamed(to, set), far_may_hold = renamed(to, set & may_hold);
+        expect_decision(area, BYTES, permission, far, far_decided(near, far_may_hold));
+        uint64_t from = any_below(64), more = any() << from & all & ~to->named;
+        uint32_t answer = more == 0 || near == 11 ? near : 12;
+        expect_decision(area, BYTES, permission, far | more, far_decided(answer, far_may_hold | more));
     }
     if (to->n < 64)
-        check(wickthrush_decide(area, BYTES, permission, UINT64_C(1) << to->n) == 4, "role %llu of as many is known",
-              (unsigned long long)to->n);
+        expect_decision(area, BYTES, permission, UINT64_C(1) << to->n, (struct second_decided){4, SECOND_NO_ROLE});
 }
 
 static void far_roles(void)
@@ -567,13 +585,15 @@ static void equal_knowledge(void)
 
 static void every_answer(void)
 {
-    group("every answer occurred");
+    group("every answer occurred, and every role as one to ask about");
     for (uint32_t answer = 0; answer < ANSWERS; answer++) {
         if (answer == 9)
             continue;
         check(times[answer] > 0, "answer %lu never occurred", (unsigned long)answer);
         printf("  answer %lu: %lu times\n", (unsigned long)answer, times[answer]);
     }
+    for (uint32_t role = 0; role < SECOND_MOST_ROLES; role++)
+        check(asked[role] > 0, "role %lu never occurred", (unsigned long)role);
 }
 
 int main(void)

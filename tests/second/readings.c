@@ -62,6 +62,7 @@ static void header_numbers(void)
         NUMBER(MOST_ROLES, SECOND_MOST_ROLES),
         NUMBER(MOST_ROWS, SECOND_ROWS),
         NUMBER(MOST_OPEN_SETS, SECOND_OPENS),
+        NUMBER(NO_ROLE, SECOND_NO_ROLE),
         NUMBER(REPLY_DENY, 0),
         NUMBER(REPLY_ALLOW, 1),
         NUMBER(WITHDRAWN, 0),
@@ -87,9 +88,29 @@ static void header_numbers(void)
               numbers[i].number, numbers[i].expected);
 }
 
+/* ---- decide */
+
+/* In the place of an answer that has a role, and of the role of an answer that is not 12. */
+enum { WRONG = 1000 };
+
+/* The answer of a decide that must give no role. */
+static uint32_t decided(const uint8_t *at, size_t len, uint32_t permission, uint64_t set)
+{
+    wickthrush_decided got = wickthrush_decide(at, len, permission, set);
+    return got.role == SECOND_NO_ROLE ? got.answer : WRONG;
+}
+
+/* The role of a decide that must answer 12. */
+static uint32_t role_to_ask(const uint8_t *at, size_t len, uint32_t permission, uint64_t set)
+{
+    wickthrush_decided got = wickthrush_decide(at, len, permission, set);
+    return got.answer == 12 ? got.role : WRONG;
+}
+
 /* ---- readings */
 
 /* A line of the program (its letter, then a set or a role), and its answer.
+ * With Q there must be no role; ? is a Q that must be answered 12, and here its answer is the role to ask about.
  * A small letter asks for row 0: u rows used, d denied set, c number of open sets, o and w the first two open sets. */
 struct step {
     char letter;
@@ -99,22 +120,24 @@ struct step {
 
 struct reading {
     const char *name;
-    struct step steps[12];
+    struct step steps[16];
 };
 
 /* Role count 8, permission 5. */
 static const struct reading readings[] = {
     {"no row, decide on -", {{'Q', 0, 10}, {'u', 0, 0}}},
-    {"no row, decide on 0", {{'Q', BIT(0), 12}, {'u', 0, 0}}},
+    {"no row, decide on 0", {{'?', BIT(0), 0}, {'u', 0, 0}}},
     {"allow on -", {{'A', 0, 6}, {'u', 0, 0}}},
     {"deny on -", {{'D', 0, 0}, {'u', 0, 0}}},
-    {"allow 2,3; withdraw 2", {{'A', SET2(2, 3), 0}, {'R', 2, 0}, {'Q', BIT(3), 12}, {'Q', BIT(2), 10}, {'c', 0, 0}}},
+    {"allow 2,3", {{'A', SET2(2, 3), 0}, {'?', SET2(3, 4), 3}}},
+    {"allow 2,3; withdraw 2",
+     {{'A', SET2(2, 3), 0}, {'R', 2, 0}, {'?', BIT(3), 3}, {'Q', BIT(2), 10}, {'?', SET2(2, 3), 3}, {'c', 0, 0}}},
     {"allow 2,3; deny 2", {{'A', SET2(2, 3), 0}, {'D', BIT(2), 0}, {'Q', BIT(3), 11}}},
     {"allow 3; allow 3,4", {{'A', BIT(3), 0}, {'A', SET2(3, 4), 0}, {'c', 0, 1}, {'o', 0, BIT(3)}}},
     {"allow 3,4; allow 3", {{'A', SET2(3, 4), 0}, {'A', BIT(3), 0}, {'c', 0, 1}, {'o', 0, BIT(3)}}},
     {"deny 1,2; give 1", {{'D', SET2(1, 2), 0}, {'G', 1, 0}, {'Q', BIT(1), 11}, {'Q', BIT(2), 10}}},
     {"allow 2,3; deny 2,3", {{'A', SET2(2, 3), 0}, {'D', SET2(2, 3), 6}}},
-    {"allow 1,2; allow 2,3", {{'A', SET2(1, 2), 0}, {'A', SET2(2, 3), 0}, {'Q', BIT(2), 12}}},
+    {"allow 1,2; allow 2,3", {{'A', SET2(1, 2), 0}, {'A', SET2(2, 3), 0}, {'?', BIT(2), 2}}},
     {"the worked case",
      {{'D', SET2(1, 2), 0},
       {'A', SET3(2, 3, 4), 0},
@@ -126,7 +149,36 @@ static const struct reading readings[] = {
       {'w', 0, SET2(5, 6)},
       {'Q', SET2(3, 4), 11},
       {'Q', SET3(1, 4, 7), 10},
-      {'Q', SET2(1, 5), 12}}},
+      {'?', SET2(1, 5), 5},
+      {'?', SET3(1, 2, 6), 6},
+      {'?', SET2(0, 5), 0}}},
+    {"no row, whom to ask about",
+     {{'?', BIT(7), 7}, {'?', SET2(0, 7), 0}, {'?', SET3(3, 5, 6), 3}, {'?', BIT(8) - 1, 0}, {'Q', 0, 10}}},
+    {"allow 3", {{'A', BIT(3), 0}, {'Q', SET2(2, 3), 11}, {'?', BIT(2), 2}}},
+    {"no denied role is asked about",
+     {{'D', SET3(0, 1, 4), 0},
+      {'?', SET2(0, 2), 2},
+      {'?', SET3(0, 1, 7), 7},
+      {'?', SET3(2, 4, 6), 2},
+      {'?', SET3(1, 4, 6), 6},
+      {'Q', SET2(0, 4), 10}}},
+    {"roles of open sets are asked about",
+     {{'A', SET2(5, 6), 0},
+      {'?', BIT(5), 5},
+      {'?', SET2(6, 7), 6},
+      {'?', SET2(4, 5), 4},
+      {'Q', SET3(4, 5, 6), 11},
+      {'Q', SET2(5, 6), 11}}},
+    {"whom to ask about after updates",
+     {{'R', 0, 0},
+      {'?', SET2(0, 1), 1},
+      {'G', 3, 0},
+      {'Q', SET2(1, 3), 11},
+      {'?', SET3(0, 1, 2), 1},
+      {'G', 0, 0},
+      {'Q', SET2(0, 1), 11},
+      {'F', 0, 0},
+      {'?', SET2(0, 1), 0}}},
     {"allow on a denied set",
      {{'D', SET2(1, 2), 0}, {'A', BIT(1), 6}, {'A', SET2(1, 2), 6}, {'A', SET2(2, 3), 0}, {'o', 0, BIT(3)}}},
     {"deny on part of an open set",
@@ -137,9 +189,16 @@ static const struct reading readings[] = {
     {"give, then withdraw",
      {{'G', 7, 0}, {'Q', BIT(7), 11}, {'R', 7, 0}, {'Q', BIT(7), 10}, {'d', 0, BIT(7)}, {'c', 0, 0}}},
     {"give drops open sets with it",
-     {{'A', SET2(2, 3), 0}, {'G', 2, 0}, {'c', 0, 1}, {'o', 0, BIT(2)}, {'Q', BIT(3), 12}}},
-    {"forget", {{'A', BIT(2), 0}, {'F', 0, 0}, {'u', 0, 0}, {'Q', BIT(2), 12}, {'F', 0, 0}}},
-    {"unknown roles", {{'A', BIT(8), 4}, {'D', BIT(63), 4}, {'G', 8, 4}, {'R', 64, 4}, {'Q', BIT(8), 4}, {'u', 0, 0}}},
+     {{'A', SET2(2, 3), 0}, {'G', 2, 0}, {'c', 0, 1}, {'o', 0, BIT(2)}, {'?', BIT(3), 3}}},
+    {"forget", {{'A', BIT(2), 0}, {'F', 0, 0}, {'u', 0, 0}, {'?', BIT(2), 2}, {'F', 0, 0}}},
+    {"unknown roles",
+     {{'A', BIT(8), 4},
+      {'D', BIT(63), 4},
+      {'G', 8, 4},
+      {'R', 64, 4},
+      {'Q', BIT(8), 4},
+      {'Q', SET2(0, 8), 4},
+      {'u', 0, 0}}},
 };
 
 static uint64_t word(size_t at)
@@ -154,7 +213,8 @@ static uint64_t done(const struct step *step)
     case 'D': return wickthrush_reply(area, BYTES, 5, 0, step->number);
     case 'G': return wickthrush_update(area, BYTES, 5, 1, step->number);
     case 'R': return wickthrush_update(area, BYTES, 5, 0, step->number);
-    case 'Q': return wickthrush_decide(area, BYTES, 5, step->number);
+    case 'Q': return decided(area, BYTES, 5, step->number);
+    case '?': return role_to_ask(area, BYTES, 5, step->number);
     case 'F': return wickthrush_forget(area, BYTES, 5);
     case 'u': return word(1);
     case 'd': return word(second_denied_at(0));
@@ -193,7 +253,7 @@ static void role_counts(void)
         for (uint64_t kind = 0; kind <= 1; kind++) {
             check(wickthrush_update(area, BYTES, 5, kind, n - 1) == 0, "role %llu is unknown",
                   (unsigned long long)n - 1);
-            check(wickthrush_decide(area, BYTES, 5, BIT(n - 1)) == 10 + kind, "role %llu, update %llu",
+            check(decided(area, BYTES, 5, BIT(n - 1)) == 10 + kind, "role %llu, update %llu",
                   (unsigned long long)n - 1, (unsigned long long)kind);
             check(wickthrush_reply(area, BYTES, 6, kind, BIT(n - 1)) == (kind ? 6 : 0), "reply on role %llu",
                   (unsigned long long)n - 1);
@@ -204,12 +264,33 @@ static void role_counts(void)
                       (unsigned long long)n);
         }
     }
-    check(wickthrush_reply(area, BYTES, 7, 0, UINT64_MAX) == 0 && wickthrush_decide(area, BYTES, 7, UINT64_MAX) == 10,
+    check(wickthrush_reply(area, BYTES, 7, 0, UINT64_MAX) == 0 && decided(area, BYTES, 7, UINT64_MAX) == 10,
           "all 64 roles denied");
     memcpy(before, area, BYTES);
     for (size_t i = 0; i < sizeof bad / sizeof bad[0]; i++)
         check(wickthrush_open(area, BYTES, bad[i]) == 2 && memcmp(area, before, BYTES) == 0, "role count %llu",
               (unsigned long long)bad[i]);
+}
+
+/* What is denied, from role 0 up, leaves the next one to ask about, and at the end none. */
+static void roles_to_ask(void)
+{
+    group("the role to ask about, of 1 to 64");
+    for (uint64_t n = 1; n <= ROLES; n++) {
+        uint64_t all = UINT64_MAX >> (ROLES - n);
+        open_area(n);
+        for (uint64_t r = 0; r < n; r++) {
+            check(role_to_ask(area, BYTES, 5, all) == r, "of %llu roles those below %llu are denied",
+                  (unsigned long long)n, (unsigned long long)r);
+            check(role_to_ask(area, BYTES, 5, BIT(r)) == r, "role %llu alone", (unsigned long long)r);
+            check(role_to_ask(area, BYTES, 6, BIT(r)) == r, "role %llu without a row", (unsigned long long)r);
+            check(wickthrush_reply(area, BYTES, 5, 0, BIT(r)) == 0, "deny %llu", (unsigned long long)r);
+            check(decided(area, BYTES, 5, BIT(r)) == 10, "role %llu denied", (unsigned long long)r);
+        }
+        check(decided(area, BYTES, 5, all) == 10, "all %llu roles denied", (unsigned long long)n);
+        check(wickthrush_update(area, BYTES, 5, 1, n - 1) == 0 && decided(area, BYTES, 5, all) == 11, "role %llu given",
+              (unsigned long long)n - 1);
+    }
 }
 
 /* 15 one-role open sets fit; a 16th open set is refused in a reply, and forgets the row in an update. */
@@ -260,14 +341,14 @@ static void rows(void)
         check(wickthrush_update(area, BYTES, 5, 0, 0) == 8, "withdraw 0 isn't 8");
         check(wickthrush_update(area, BYTES, 5, 1, 0) == 8, "give 0 isn't 8");
         check(wickthrush_forget(area, BYTES, 5) == 0, "forget of a permission without a row isn't 0");
-        check(wickthrush_decide(area, BYTES, 5, BIT(0)) == 12, "decide without a row isn't 12");
+        check(role_to_ask(area, BYTES, 5, BIT(0)) == 0, "decide without a row isn't 12 with role 0");
         check(memcmp(area, before, BYTES) == 0, "the area changed");
         check(wickthrush_update(area, BYTES, 1003, 1, 7) == 0, "an update on a used row isn't 0");
         check(wickthrush_reply(area, BYTES, 5, 0, BIT(0)) == 7, "deny on 0 still isn't 7");
         check(wickthrush_forget(area, BYTES, 1000 + 3 * 64) == 0, "forget isn't 0");
         check(word(1) == ROWS - 1 && second_good(area), "not 127 good rows");
         check(wickthrush_reply(area, BYTES, 5, 0, BIT(0)) == 0, "after one forget deny on 0 isn't 0");
-        check(wickthrush_decide(area, BYTES, 5, BIT(0)) == 10, "the new row doesn't deny");
+        check(decided(area, BYTES, 5, BIT(0)) == 10, "the new row doesn't deny");
     }
 }
 
@@ -293,7 +374,7 @@ static void order_of_refusals(void)
         check(wickthrush_update(area, len, permission, bad_kind ? BIT(32) : 0, unknown ? 8 : 1) == first,
               "update with faults %#x", faults);
         uint32_t decide = area_or_permission ? area_or_permission : unknown ? 4 : 10;
-        check(wickthrush_decide(area, len, permission, set) == decide, "decide with faults %#x", faults);
+        check(decided(area, len, permission, set) == decide, "decide with faults %#x", faults);
         if (area_or_permission)
             check(wickthrush_forget(area, len, permission) == area_or_permission, "forget with faults %#x", faults);
         check(wickthrush_open(area, len, against ? 0 : 65) == (len != BYTES ? 1 : 2), "open with faults %#x", faults);
@@ -318,7 +399,7 @@ static void wide_numbers(void)
                   (unsigned long long)low);
             uint64_t unknown = high < 8 ? BIT(8) : BIT(high);
             check(wickthrush_reply(area, BYTES, 5, low, unknown | BIT(2)) == 4, "a set with role %u", high);
-            check(wickthrush_decide(area, BYTES, 5, unknown | low) == 4, "a session with role %u", high);
+            check(decided(area, BYTES, 5, unknown | low) == 4, "a session with role %u", high);
         }
         if (high > 6)
             check(wickthrush_open(area, BYTES, BIT(high) + 8) == 2, "role count 2^%u + 8", high);
@@ -338,8 +419,9 @@ static void refused(const char *name, size_t len)
         wickthrush_reply(area, len, 0, 2, UINT64_MAX),
         wickthrush_update(area, len, 5, 0, 0),
         wickthrush_update(area, len, 0, 2, 64),
-        wickthrush_decide(area, len, 5, 0),
-        wickthrush_decide(area, len, 0, UINT64_MAX),
+        decided(area, len, 5, 0),
+        decided(area, len, 5, 1),
+        decided(area, len, 0, UINT64_MAX),
         wickthrush_forget(area, len, 5),
         wickthrush_forget(area, len, 0),
     };
@@ -351,7 +433,7 @@ static void refused(const char *name, size_t len)
 
 static void accepted(const char *name)
 {
-    check(wickthrush_decide(area, BYTES, 5, 0) == 10, "%s: a good area is refused", name);
+    check(decided(area, BYTES, 5, 0) == 10, "%s: a good area is refused", name);
     check(second_good(area), "%s: the second program calls it bad", name);
 }
 
@@ -482,7 +564,7 @@ static void refused_with(const char *rule, size_t at, uint64_t value, size_t oth
     uint64_t old = word(at), other_old = word(other);
     second_put(area, at, value);
     second_put(area, other, other_value);
-    check(wickthrush_decide(area, BYTES, 5, 0) == 1, "%s: words %zu and %zu", rule, at, other);
+    check(decided(area, BYTES, 5, 0) == 1, "%s: words %zu and %zu", rule, at, other);
     second_put(area, other, other_old);
     second_put(area, at, old);
 }
@@ -533,7 +615,7 @@ static void unused_bytes(void)
             if (used[i / 8])
                 continue;
             area[i] = (uint8_t)(1 << any_below(8));
-            check(wickthrush_decide(area, BYTES, 5, 0) == 1, "byte %zu", i);
+            check(decided(area, BYTES, 5, 0) == 1, "byte %zu", i);
             area[i] = 0;
         }
         accepted("after all");
@@ -567,7 +649,7 @@ static void lengths(void)
         check(memcmp(area, before, BYTES) == 0, "length %zu: the area changed", wrong[i]);
         check_guards(area, "open with a wrong length");
     }
-    check(wickthrush_decide(NULL, 0, 5, 0) == 1, "decide on nothing");
+    check(decided(NULL, 0, 5, 0) == 1, "decide on nothing");
     check(wickthrush_open(NULL, 0, 8) == 1, "open on nothing");
 }
 
@@ -641,7 +723,7 @@ static void changed_words(void)
         }
         bool is_good = second_good(area);
         *(is_good ? &good : &bad) += 1;
-        uint32_t answer = wickthrush_decide(area, BYTES, 9, 0);
+        uint32_t answer = decided(area, BYTES, 9, 0);
         check(answer == (is_good ? 10 : 1), "a changed area that is %s answers %lu", is_good ? "good" : "bad",
               (unsigned long)answer);
     }
@@ -669,8 +751,8 @@ static void short_stream(uint8_t *at)
         check(wickthrush_reply(at, BYTES, permission, 0, permission) == (permission < 135 ? 0 : 7), "row of %lu",
               (unsigned long)permission);
     check(wickthrush_update(at, BYTES, 300, 0, 0) == 8, "update without room");
-    check(wickthrush_decide(at, BYTES, 5, BIT(63)) == 11, "decide");
-    check(wickthrush_decide(at, BYTES - 1, 5, BIT(63)) == 1, "decide, one byte short");
+    check(decided(at, BYTES, 5, BIT(63)) == 11, "decide");
+    check(decided(at, BYTES - 1, 5, BIT(63)) == 1, "decide, one byte short");
     if (!has_first)
         memcpy(first, at, BYTES);
     has_first = true;
@@ -700,9 +782,9 @@ static void guard_pages(void)
     short_stream(memory + PAGE);
     short_stream(memory + 2 * PAGE - BYTES);
     check(mprotect(memory + PAGE, PAGE, PROT_READ) == 0, "not protected");
-    check(wickthrush_decide(memory + PAGE, BYTES, 5, BIT(63)) == 11, "decide at the start");
-    check(wickthrush_decide(memory + 2 * PAGE - BYTES, BYTES, 5, BIT(0)) == 12, "decide at the end");
-    check(wickthrush_decide(memory + PAGE + 1, BYTES, 5, BIT(0)) == 1, "decide one byte off");
+    check(decided(memory + PAGE, BYTES, 5, BIT(63)) == 11, "decide at the start");
+    check(role_to_ask(memory + 2 * PAGE - BYTES, BYTES, 5, BIT(0)) == 0, "decide at the end");
+    check(decided(memory + PAGE + 1, BYTES, 5, BIT(0)) == 1, "decide one byte off");
     munmap(memory, 3 * PAGE);
 }
 
@@ -712,6 +794,7 @@ int main(void)
     header_numbers();
     table_of_readings();
     role_counts();
+    roles_to_ask();
     open_sets();
     rows();
     order_of_refusals();

@@ -63,6 +63,23 @@ static bool never_shares(second_sets possible, uint64_t set)
     return (possible & sharing(set)) == 0;
 }
 
+uint64_t second_may_hold(second_sets possible)
+{
+    uint64_t roles = 0;
+    for (uint64_t h = 0; h < 1 << SECOND_ROLES; h++)
+        if (member(possible, h))
+            roles |= h;
+    return roles;
+}
+
+uint32_t second_lowest(uint64_t set)
+{
+    for (uint32_t r = 0; r < SECOND_MOST_ROLES; r++)
+        if (member(set, r))
+            return r;
+    return SECOND_NO_ROLE;
+}
+
 /* Whether a set always shares, and no set with one role less does. */
 static bool minimal(second_sets possible, uint64_t set)
 {
@@ -198,18 +215,25 @@ uint32_t second_update(struct second *second, size_t len, uint32_t permission, u
     return 0;
 }
 
-uint32_t second_decide(const struct second *second, size_t len, uint32_t permission, uint64_t set)
+static struct second_decided without_role(uint32_t answer)
+{
+    return (struct second_decided){answer, SECOND_NO_ROLE};
+}
+
+struct second_decided second_decide(const struct second *second, size_t len, uint32_t permission, uint64_t set)
 {
     if (bad_area(second, len))
-        return 1;
+        return without_role(1);
     if (permission == 0)
-        return 3;
+        return without_role(3);
     if (!known_set(second, set))
-        return 4;
+        return without_role(4);
     second_sets possible = second_possible(second, permission);
     if (never_shares(possible, set))
-        return 10;
-    return always_shares(possible, set) ? 11 : 12;
+        return without_role(10);
+    if (always_shares(possible, set))
+        return without_role(11);
+    return (struct second_decided){12, second_lowest(set & second_may_hold(possible))};
 }
 
 uint32_t second_forget(struct second *second, size_t len, uint32_t permission)

@@ -10,6 +10,7 @@
 enum {
     SECOND_ROLES = 6, /* the largest role count it can enumerate: its 64 holder sets fill one number */
     SECOND_MOST_ROLES = 64, /* the largest role count of an area */
+    SECOND_NO_ROLE = 64,
     SECOND_ROWS = 128,
     SECOND_OPENS = 15,
     SECOND_MINIMAL = 20, /* the most sets of 6 roles of which none is part of another */
@@ -33,16 +34,27 @@ struct second_row {
     uint64_t open[SECOND_MINIMAL]; /* ascending */
 };
 
+/* What decide gives: with 12 the role to ask about, with every other answer SECOND_NO_ROLE. */
+struct second_decided {
+    uint32_t answer, role;
+};
+
 /* The calls of the C side. A role count above SECOND_ROLES is beyond this program and ends it. */
 uint32_t second_open(struct second *second, size_t len, uint64_t n);
 uint32_t second_reply(struct second *second, size_t len, uint32_t permission, uint64_t verdict, uint64_t set);
 uint32_t second_update(struct second *second, size_t len, uint32_t permission, uint64_t kind, uint64_t role);
-uint32_t second_decide(const struct second *second, size_t len, uint32_t permission, uint64_t set);
+struct second_decided second_decide(const struct second *second, size_t len, uint32_t permission, uint64_t set);
 uint32_t second_forget(struct second *second, size_t len, uint32_t permission);
 
 second_sets second_all(uint64_t n);
 second_sets second_possible(const struct second *second, uint32_t permission);
 struct second_row second_row(second_sets possible, uint64_t n);
+
+/* The roles that some possible holder set has. */
+uint64_t second_may_hold(second_sets possible);
+
+/* The lowest role of a set; SECOND_NO_ROLE where it has none. */
+uint32_t second_lowest(uint64_t set);
 
 /* The bytes that the area must have. */
 void second_area(const struct second *second, uint8_t *area);

@@ -1,4 +1,5 @@
-/* Drives the library and the yardstick side by side: every answer and every byte of the area must be the same. */
+/* Drives the library and the yardstick side by side: every answer, every role to ask about and every byte of the area
+ * must be the same. */
 #include "../measure/areas.h"
 #include "../second/groups.h"
 #include "wickthrush.h"
@@ -17,26 +18,35 @@ struct call {
 };
 
 static uint8_t area[AREA_BYTES], other[AREA_BYTES], kept[AREA_BYTES];
-static unsigned long times[13], good_areas, bad_areas;
+static unsigned long times[13], asked[WICKTHRUSH_MOST_ROLES], good_areas, bad_areas;
 
-static uint32_t ask_library(const struct call *c)
+/* The answer; decide alone gives a role too. */
+static uint32_t ask_library(const struct call *c, uint32_t *role)
 {
+    wickthrush_decided decided;
     switch (c->what) {
     case OPEN: return wickthrush_open(area, c->len, c->number);
     case REPLY: return wickthrush_reply(area, c->len, c->permission, c->kind, c->number);
     case UPDATE: return wickthrush_update(area, c->len, c->permission, c->kind, c->number);
-    case DECIDE: return wickthrush_decide(area, c->len, c->permission, c->number);
+    case DECIDE:
+        decided = wickthrush_decide(area, c->len, c->permission, c->number);
+        *role = decided.role;
+        return decided.answer;
     default: return wickthrush_forget(area, c->len, c->permission);
     }
 }
 
-static uint32_t ask_yardstick(const struct call *c)
+static uint32_t ask_yardstick(const struct call *c, uint32_t *role)
 {
+    struct yardstick_decided decided;
     switch (c->what) {
     case OPEN: return yardstick_open(other, c->len, c->number);
     case REPLY: return yardstick_reply(other, c->len, c->permission, c->kind, c->number);
     case UPDATE: return yardstick_update(other, c->len, c->permission, c->kind, c->number);
-    case DECIDE: return yardstick_decide(other, c->len, c->permission, c->number);
+    case DECIDE:
+        decided = yardstick_decide(other, c->len, c->permission, c->number);
+        *role = decided.role;
+        return decided.answer;
     default: return yardstick_forget(other, c->len, c->permission);
     }
 }
@@ -44,10 +54,13 @@ static uint32_t ask_yardstick(const struct call *c)
 /* Both areas start equal and must end so. */
 static uint32_t both(const struct call *c)
 {
-    uint32_t answer = ask_library(c), expected = ask_yardstick(c);
-    bool same = check(answer == expected, "call %d, permission %lu, kind %#llx, number %#llx: %lu instead of %lu",
-                      (int)c->what, (unsigned long)c->permission, (unsigned long long)c->kind,
-                      (unsigned long long)c->number, (unsigned long)answer, (unsigned long)expected);
+    uint32_t role = WICKTHRUSH_NO_ROLE, expected_role = WICKTHRUSH_NO_ROLE;
+    uint32_t answer = ask_library(c, &role), expected = ask_yardstick(c, &expected_role);
+    bool same =
+        check(answer == expected && role == expected_role,
+              "call %d, permission %lu, kind %#llx, number %#llx: %lu with role %lu instead of %lu with role %lu",
+              (int)c->what, (unsigned long)c->permission, (unsigned long long)c->kind, (unsigned long long)c->number,
+              (unsigned long)answer, (unsigned long)role, (unsigned long)expected, (unsigned long)expected_role);
     same &= check(memcmp(area, other, AREA_BYTES) == 0, "call %d answered %lu: the areas differ", (int)c->what,
                   (unsigned long)answer);
     /* One difference must not show up again in all that follows. */
@@ -55,6 +68,8 @@ static uint32_t both(const struct call *c)
         memcpy(other, area, AREA_BYTES);
     if (expected < sizeof times / sizeof times[0])
         times[expected]++;
+    if (expected_role < WICKTHRUSH_MOST_ROLES)
+        asked[expected_role]++;
     return expected;
 }
 
@@ -302,9 +317,11 @@ static void random_areas(void)
 
 static void everything_occurred(void)
 {
-    group("every answer occurred, and good areas and bad ones");
+    group("every answer occurred, every role as one to ask about, and good areas and bad ones");
     for (size_t answer = 0; answer < sizeof times / sizeof times[0]; answer++)
         check(answer == 9 || times[answer] > 0, "answer %zu never occurred", answer);
+    for (size_t role = 0; role < WICKTHRUSH_MOST_ROLES; role++)
+        check(asked[role] > 0, "role %zu never occurred", role);
     check(good_areas > 1000 && bad_areas > 1000, "%lu good areas, %lu bad ones", good_areas, bad_areas);
 }
 

@@ -6,10 +6,15 @@
 #include <stddef.h>
 #include <stdint.h>
 
+/* What decide gives; the library's type has the same fields. */
+struct yardstick_decided {
+    uint32_t answer, role;
+};
+
 uint32_t yardstick_open(uint8_t *area, size_t len, uint64_t role_count);
 uint32_t yardstick_reply(uint8_t *area, size_t len, uint32_t permission, uint64_t verdict, uint64_t set);
 uint32_t yardstick_update(uint8_t *area, size_t len, uint32_t permission, uint64_t kind, uint64_t role);
-uint32_t yardstick_decide(const uint8_t *area, size_t len, uint32_t permission, uint64_t set);
+struct yardstick_decided yardstick_decide(const uint8_t *area, size_t len, uint32_t permission, uint64_t set);
 uint32_t yardstick_forget(uint8_t *area, size_t len, uint32_t permission);
 
 /* Whether the bytes obey every layout rule. */

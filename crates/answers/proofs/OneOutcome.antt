@@ -5,6 +5,7 @@ use mathlib.Core.List.{List, _++_}
 use Prim.Native.Nat.{ℕ, _+_}
 use lib.ListN.{length}
 use lib.Seq.{sets}
+use Rattle.meaning.specs.Rows.{Decided}
 use Rattle.text.specs.Write.{Wrote}
 use Rattle.answers.specs.Texts.{answerText}
 use Rattle.answers.specs.Show.{rowTextAt, Shows, stops, shows, RowsShown, AnswerShown}
@@ -24,5 +25,5 @@ module _ {d : List ℕ} {at : ℕ} {t u e f : List ℕ} {r s : Shown} (same : t 
 pub rows-one : {l : List ℕ} {i at : ℕ} {d e f : List ℕ} {r s : Shown} → RowsShown l i at d r e → RowsShown l i at d s f → (r ≡ s) × (e ≡ f)
 rows-one a b = let one = shows-one (a .shows) (b .shows) in written-one (one .1) (a .wrote) (b .wrote) (one .0)
 
-pub answered-one : {k c : ℕ} {l : List ℕ} {i at : ℕ} {d e f : List ℕ} {r s : Shown} → AnswerShown k c l i at d r e → AnswerShown k c l i at d s f → (r ≡ s) × (e ≡ f)
+pub answered-one : {k : ℕ} {c : Decided} {l : List ℕ} {i at : ℕ} {d e f : List ℕ} {r s : Shown} → AnswerShown k c l i at d r e → AnswerShown k c l i at d s f → (r ≡ s) × (e ≡ f)
 answered-one {k} {c} a b = let one = shows-one (a .shows) (b .shows) in written-one (ap (λ (x : List ℕ). answerText k c ++ x) (one .1)) (a .wrote) (b .wrote) (one .0)

@@ -7,7 +7,7 @@ use native.Mathlib.Omega.{arith}
 use borrow.Author.Tests.{ltb-true, leb-true, le-ltb}
 use lib.Dec.{leb, ltb}
 use lib.ListN.{length}
-use Rattle.meaning.specs.Rows.{mostOpens}
+use Rattle.meaning.specs.Rows.{mostOpens, Decided}
 use Rattle.rows.specs.Stored.{Tidy, rowOf}
 use Rattle.rows.proofs.Padded.{stored⇒tidy, stored⇒row}
 use Rattle.area.specs.Layout.{mostRows}
@@ -178,14 +178,14 @@ module _ (l : List ℕ) (i₀ at₀ : ℕ) (d₀ : List ℕ) (s : Showing) (d : 
 
 -- ---- an answer, and the rows after it
 
-module _ (k a : ℕ) (at : ℕ) (d : List ℕ) (k-fits : k < 2 ^ 64) (a-fits : a < 2 ^ 32) (room : at + mostText ≤ length d) where
+module _ (k : ℕ) (a : Decided) (at : ℕ) (d : List ℕ) (k-fits : k < 2 ^ 64) (a-fits : a .answer < 2 ^ 32) (room : at + mostText ≤ length d) where
   pub answer-fits : at + length (answerText k a) ≤ length d
   answer-fits = omega (arith, length-answer k a k-fits a-fits, room)
 
   pub answer-inside : {e : List ℕ} {z : ℕ} → Wrote d at (answerText k a) e z → z ≤ length e
   answer-inside w = omega (arith, answer-fits, w .next, wrote-length w)
 
-pub answer-shown : (k a : ℕ) (l : List ℕ) (i at : ℕ) (d : List ℕ) {e f : List ℕ} {z : ℕ} {r : Shown} → Wrote d at (answerText k a) e z → RowsShown l i z e r f → AnswerShown k a l i at d r f
+pub answer-shown : (k : ℕ) (a : Decided) (l : List ℕ) (i at : ℕ) (d : List ℕ) {e f : List ℕ} {z : ℕ} {r : Shown} → Wrote d at (answerText k a) e z → RowsShown l i z e r f → AnswerShown k a l i at d r f
 answer-shown k a l i at d {e} {z = z} {r} w c =
     let left : length e - z ≡ length d - (at + length (answerText k a)) = let n = wrote-length w in let m = w .next in omega arith in record {
       text = c .text;

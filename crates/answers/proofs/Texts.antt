@@ -1,20 +1,26 @@
 -- Texts written part by part into a buffer that has room for the whole, and how long they are. Assumes nothing.
-use mathlib.Core.Path.{_≡_, refl, sym}
+use mathlib.Core.Path.{_≡_, refl, sym, ap}
+use mathlib.Core.Bool.{Bool, cond}
+use mathlib.Core.Logic.{by-cases}
 use mathlib.Core.List.{List, [], _∷_, _++_}
 use Prim.Native.Nat.{ℕ, _+_, _*_, _≤_, _<_, _^_}
 use native.Mathlib.Nat.{add-zero}
 use native.Mathlib.Numerals.{add-one}
+use native.Mathlib.Decide.{decLt}
 use native.Mathlib.Omega.{arith}
+use borrow.Author.Tests.{lt-ltb, le-ltb}
 use lib.ListN.{length, drop, getD, length-append, drop-of-length-le}
 use lib.Seq.{drop-cons}
+use Rattle.roles.specs.Sets.{mostRoles}
 use Rattle.text.specs.Ascii.{space}
+use Rattle.text.specs.Number.{numberText}
 use Rattle.text.specs.Set.{setText}
 use Rattle.text.specs.Write.{Wrote}
 use Rattle.text.proofs.WriteLaws.{wrote-length}
 use Rattle.text.proofs.Shape.{length-number, length-set-text}
-use Rattle.meaning.specs.Rows.{mostOpens}
+use Rattle.meaning.specs.Rows.{mostOpens, Decided}
 use Rattle.area.specs.State.{Entry}
-use Rattle.answers.specs.Texts.{mostText, answerText, setsOf, setsText, rowText}
+use Rattle.answers.specs.Texts.{mostText, roleText, answerText, setsOf, setsText, rowText}
 
 pub wrote-nothing : (d : List ℕ) (at : ℕ) → Wrote d at [] d at
 wrote-nothing d at = record { bytes = refl; next = sym (add-zero at) }
@@ -35,6 +41,16 @@ pub sets-end : (l : List ℕ) (i : ℕ) → length l ≤ i → setsText (drop i 
 unfolding setsText
 sets-end l i h = rw (drop-of-length-le l {i = i} h) refl
 
+-- ---- the role behind an answer
+
+pub a-role : (r : ℕ) → r < mostRoles → roleText r ≡ (space ∷ []) ++ numberText r
+unfolding roleText
+a-role r h = ap (λ (b : Bool). cond b ((space ∷ []) ++ numberText r) []) (lt-ltb r mostRoles h)
+
+pub no-role : (r : ℕ) → mostRoles ≤ r → roleText r ≡ []
+unfolding roleText
+no-role r h = ap (λ (b : Bool). cond b ((space ∷ []) ++ numberText r) []) (le-ltb r mostRoles h)
+
 -- ---- lengths
 
 length-sets-text : (l : List ℕ) → length (setsText l) ≤ 182 * length l
@@ -50,9 +66,15 @@ length-row e p k =
     let s = length-sets-text (setsOf (e .row)) in
     simp length-append (omega arith)
 
-pub length-answer : (k a : ℕ) → k < 2 ^ 64 → a < 2 ^ 32 → length (answerText k a) ≤ mostText
+length-role : (r : ℕ) → length (roleText r) ≤ 3
+length-role r = by-cases (decLt r mostRoles)
+    (λ h. rw (a-role r h) (let n = length-number 1 r (omega arith) in omega (arith, length-append (space ∷ []) (numberText r))))
+    (λ h. rw (no-role r (omega (arith, h))) (omega arith))
+
+pub length-answer : (k : ℕ) (d : Decided) → k < 2 ^ 64 → d .answer < 2 ^ 32 → length (answerText k d) ≤ mostText
 unfolding answerText
-length-answer k a h j =
+length-answer k d h j =
     let n = length-number 19 k (omega arith) in
-    let m = length-number 9 a (omega arith) in
+    let m = length-number 9 (d .answer) (omega arith) in
+    let r = length-role (d .role) in
     simp length-append (omega arith)

@@ -14,7 +14,7 @@ use mathlib.Core.List.{List, [], _++_}
 use Prim.Native.Nat.{ℕ, _+_, _-_, _≤_}
 use lib.Dec.{ltb, leb}
 use lib.ListN.{length}
-use Rattle.meaning.specs.Rows.{mostOpens}
+use Rattle.meaning.specs.Rows.{mostOpens, Decided}
 use Rattle.rows.specs.Stored.{Tidy, rowOf}
 use Rattle.area.specs.Layout.{mostRows}
 use Rattle.area.specs.State.{entry}
@@ -62,13 +62,13 @@ pub record RowsShown (l : List ℕ) (i at : ℕ) (d : List ℕ) (r : Shown) (e :
   pub wrote : Wrote d at text e (r .written)
   pub inside : r .written ≤ length d
 
-pub record AnswerShown (k a : ℕ) (l : List ℕ) (i at : ℕ) (d : List ℕ) (r : Shown) (e : List ℕ) : Type 0 where
+pub record AnswerShown (k : ℕ) (a : Decided) (l : List ℕ) (i at : ℕ) (d : List ℕ) (r : Shown) (e : List ℕ) : Type 0 where
   pub text : List ℕ
   pub shows : Shows l (length d - (at + length (answerText k a))) i (r .row) text
   pub wrote : Wrote d at (answerText k a ++ text) e (r .written)
   pub inside : r .written ≤ length d
 
-pub record OnlyAnswer (k a at : ℕ) (d : List ℕ) (r : Shown) (e : List ℕ) : Type 0 where
+pub record OnlyAnswer (k : ℕ) (a : Decided) (at : ℕ) (d : List ℕ) (r : Shown) (e : List ℕ) : Type 0 where
   pub row : r .row ≡ mostRows
   pub wrote : Wrote d at (answerText k a) e (r .written)
   pub inside : r .written ≤ length d

@@ -5,16 +5,18 @@ pub mod write;
 
 use area::MOST_ROWS;
 use calls::Answer;
+use calls::Decided;
+use calls::bare;
 use calls::number;
 use meaning::Event;
 use meaning::Happening;
 use requests::Request;
 use show::Shown;
 use show::from_start;
-use write::write_answer;
+use write::write_decided;
 ghost use Prim.Native.Nat.{_+_, _≤_};
 ghost use lib.ListN.{length};
-ghost use Rattle.calls.specs.Answers.{Gives};
+ghost use Rattle.calls.specs.Answers.{Gives, decidedOf};
 ghost use Rattle.calls.specs.Histories.{outOf, callOf};
 ghost use Rattle.answers.specs.Answers.{Answers};
 ghost use Rattle.answers.specs.Texts.{mostText};
@@ -38,13 +40,14 @@ fn tell(area: &mut [u8], e: Event) -> Answer
 }
 
 // An answer written; no rows follow.
-fn write_only(out: &mut [u8], at: usize, line: u64, answer: u32) -> Shown
+fn write_only(out: &mut [u8], at: usize, line: u64, d: Decided) -> Shown
     requires { ⌜ at + mostText ≤ length (now out) ⌝ }
-    ensures { λ r. ⌜ OnlyAnswer line answer at (now (out .entry)) r (now (out .exit)) ⌝ }
+    ensures { λ r. ⌜ OnlyAnswer line (decidedOf d) at (now (out .entry)) r (now (out .exit)) ⌝ }
 {
+    let answer = d.answer;
     Shown {
         row: MOST_ROWS,
-        written: write_answer(out, at, line, answer),
+        written: write_decided(out, at, line, number(answer), d.role),
     }
 }
 
@@ -54,11 +57,11 @@ pub fn answer(area: &mut [u8], q: Request, line: u64, out: &mut [u8], at: usize)
     ensures { λ r. ⌜ Answers (now (area .entry)) q line at (now (out .entry)) r (now (area .exit)) (now (out .exit)) ⌝ }
 {
     match q {
-        Request::Open(n) => write_only(out, at, line, number(cache::open(area, n))),
-        Request::Told(e) => write_only(out, at, line, number(tell(area, e))),
-        Request::Decide(p, s) => write_only(out, at, line, number(cache::decide(area, p, s.bits))),
-        Request::Forget(p) => write_only(out, at, line, number(cache::forget(area, p))),
+        Request::Open(n) => write_only(out, at, line, bare(cache::open(area, n))),
+        Request::Told(e) => write_only(out, at, line, bare(tell(area, e))),
+        Request::Decide(p, s) => write_only(out, at, line, cache::decide(area, p, s.bits)),
+        Request::Forget(p) => write_only(out, at, line, bare(cache::forget(area, p))),
         Request::Show => from_start(area, line, out, at),
-        Request::Unreadable => write_only(out, at, line, number(Answer::Unreadable)),
+        Request::Unreadable => write_only(out, at, line, bare(Answer::Unreadable)),
     }
 }

@@ -11,6 +11,7 @@ use walker::start;
 ghost use mathlib.Core.Path.{_≡_};
 ghost use Prim.Native.Nat.{_+_, _≤_};
 ghost use lib.ListN.{length};
+ghost use Rattle.meaning.specs.Rows.{bare};
 ghost use Rattle.walker.specs.Walk.{Walkable, firstRow, startAnswer, goOnAt};
 ghost use Rattle.answers.specs.Texts.{mostText};
 ghost use Rattle.answers.specs.Show.{showingAt, Writable, HandedShown, RowsShown, AnswerShown};
@@ -71,7 +72,7 @@ fn walk<'a>(mut w: Walker<'a>, out: &mut [u8], at: usize) -> Shown
 // The answer to S, which is that to the start of a walker, and the rows that the walker hands out.
 pub fn from_start(area: &[u8], line: u64, out: &mut [u8], at: usize) -> Shown
     requires { ⌜ at + mostText ≤ length (now out) ⌝ }
-    ensures { λ r. ⌜ AnswerShown line (startAnswer (now (area .entry))) (now (area .entry)) (firstRow (now (area .entry))) at (now (out .entry)) r (now (out .exit)) ⌝ }
+    ensures { λ r. ⌜ AnswerShown line (bare (startAnswer (now (area .entry)))) (now (area .entry)) (firstRow (now (area .entry))) at (now (out .entry)) r (now (out .exit)) ⌝ }
 {
     let s = start(area);
     let written = write_answer(out, at, line, s.answer);

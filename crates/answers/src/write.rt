@@ -1,4 +1,5 @@
 // The texts that the program writes, into a lent buffer.
+use roles::MOST_ROLES;
 use roles::RoleSet;
 use rows::Row;
 use text::write_number;
@@ -6,24 +7,45 @@ use text::write_set;
 ghost use mathlib.Core.List.{[], _∷_, _++_};
 ghost use Prim.Native.Nat.{_+_, _≤_};
 ghost use lib.ListN.{length};
-ghost use Rattle.meaning.specs.Rows.{mostOpens};
+ghost use Rattle.meaning.specs.Rows.{mostOpens, bare};
 ghost use Rattle.rows.specs.Stored.{Tidy, rowOf};
 ghost use Rattle.area.specs.State.{entry};
 ghost use Rattle.text.specs.Ascii.{space};
 ghost use Rattle.text.specs.Set.{setText};
 ghost use Rattle.text.specs.Write.{Wrote};
-ghost use Rattle.answers.specs.Texts.{answerText, setsText, rowText};
+ghost use Rattle.answers.specs.Texts.{withRole, roleText, answerText, setsText, rowText};
 
-// The answer to a line: its number, a space, the answer, LF.
-pub fn write_answer(out: &mut [u8], at: usize, number: u64, answer: u32) -> usize
-    requires { ⌜ at + length (answerText number answer) ≤ length (now out) ⌝ }
-    ensures { λ next. ⌜ Wrote (now (out .entry)) at (answerText number answer) (now (out .exit)) next ⌝ }
+// A space and the role to ask about; nothing where there is none.
+fn write_role(out: &mut [u8], at: usize, role: u64) -> usize
+    requires { ⌜ at + length (roleText role) ≤ length (now out) ⌝ }
+    ensures { λ next. ⌜ Wrote (now (out .entry)) at (roleText role) (now (out .exit)) next ⌝ }
+{
+    if role < MOST_ROLES {
+        out[at] = b' ';
+        return write_number(out, at + 1, role);
+    }
+    at
+}
+
+// The answer to a line: its number, a space, the answer, the role where there is one, LF.
+pub fn write_decided(out: &mut [u8], at: usize, number: u64, answer: u32, role: u64) -> usize
+    requires { ⌜ at + length (answerText number (withRole answer role)) ≤ length (now out) ⌝ }
+    ensures { λ next. ⌜ Wrote (now (out .entry)) at (answerText number (withRole answer role)) (now (out .exit)) next ⌝ }
 {
     let a = write_number(out, at, number);
     out[a] = b' ';
-    let e = write_number(out, a + 1, answer as u64);
+    let b = write_number(out, a + 1, answer as u64);
+    let e = write_role(out, b, role);
     out[e] = b'\n';
     e + 1
+}
+
+// The same of an answer that has no role.
+pub fn write_answer(out: &mut [u8], at: usize, number: u64, answer: u32) -> usize
+    requires { ⌜ at + length (answerText number (bare answer)) ≤ length (now out) ⌝ }
+    ensures { λ next. ⌜ Wrote (now (out .entry)) at (answerText number (bare answer)) (now (out .exit)) next ⌝ }
+{
+    write_decided(out, at, number, answer, MOST_ROLES)
 }
 
 // A set with a space before it.

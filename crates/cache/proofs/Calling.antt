@@ -1,4 +1,4 @@
--- What is known at the front of a call, and the answers of a decision and of an opening. Assumes nothing.
+-- What is known at the front of a call, and the answers of an opening. Assumes nothing.
 use mathlib.Core.Path.{_≡_, refl, sym, ap, ap₂, _∙_, subst⁻¹}
 use mathlib.Core.Bool.{Bool, true, false, not, _&&_, _||_}
 use mathlib.Core.List.{List}
@@ -20,10 +20,10 @@ use Rattle.area.specs.State.{opened, rowFor, stateOf, areaOf}
 use Rattle.area.proofs.RowLaws.{rowFor-few}
 use Rattle.area.proofs.Bytes.{good-state}
 use Rattle.table.specs.Table.{rowsIn, Sound}
-use Rattle.calls.specs.Calls.{Out, stays, valid, openOf, decideOf}
+use Rattle.calls.specs.Calls.{stays, valid, openOf}
 use Rattle.calls.specs.Answers.{Gives}
 use Rattle.calls.specs.declared.Answer.the-variants.{Recorded, BadArea, BadRoleCount}
-use Rattle.calls.proofs.CallLaws.{valid-law, open-bad-area, open-bad-count, open-recorded, decide-bad-area, decide-no-permission, decide-unknown, decide-decides}
+use Rattle.calls.proofs.CallLaws.{valid-law, open-bad-area, open-bad-count, open-recorded}
 use Rattle.cache.proofs.Ladder.{gives}
 
 -- ---- the row of a permission, by value
@@ -53,21 +53,6 @@ roles-few l n t e = subst⁻¹ (λ (k : ℕ). k ≤ mostRoles) e (good-state l t
 
 pub set-known-at : (l : List ℕ) (n s : ℕ) (b t : Bool) → n ≡ stateOf l .roles → b ≡ partOf s (allBelow n) → b ≡ t → partOf s (allBelow (stateOf l .roles)) ≡ t
 set-known-at l n s b t q h k = sym (ap (λ (x : ℕ). partOf s (allBelow x)) q) ∙ sym h ∙ k
-
--- ---- a decision
-
-module _ (l : List ℕ) (p s : ℕ) where
-  pub decide-1 : goodBytes l ≡ false → 1 ≡ decideOf l p s .answer
-  decide-1 h = sym (ap (λ (o : Out). o .answer) (decide-bad-area l p s h))
-
-  pub decide-3 : goodBytes l ≡ true → valid p ≡ false → 3 ≡ decideOf l p s .answer
-  decide-3 h v = sym (ap (λ (o : Out). o .answer) (decide-no-permission l p s h v))
-
-  pub decide-4 : goodBytes l ≡ true → valid p ≡ true → partOf s (allBelow (stateOf l .roles)) ≡ false → 4 ≡ decideOf l p s .answer
-  decide-4 h v k = sym (ap (λ (o : Out). o .answer) (decide-unknown l p s h v k))
-
-  pub decide-go : goodBytes l ≡ true → valid p ≡ true → partOf s (allBelow (stateOf l .roles)) ≡ true → decide (rowFor p (rowsIn l)) s ≡ decideOf l p s .answer
-  decide-go h v k = sym (ap (λ (o : Out). o .answer) (decide-decides l p s h v k))
 
 -- ---- opening
 

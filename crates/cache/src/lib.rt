@@ -3,6 +3,8 @@ use area::AREA_BYTES;
 use area::MOST_ROWS;
 use area::check::check;
 use calls::Answer;
+use calls::Decided;
+use calls::bare;
 use meaning::Event;
 use meaning::Happening;
 use roles::MOST_ROLES;
@@ -32,7 +34,7 @@ ghost use Rattle.area.specs.State.{isBlank, rowFor, withRow, stateOf, areaOf};
 ghost use Rattle.table.specs.Table.{rowsIn, Sound, foundFor};
 ghost use Rattle.table.specs.declared.Found.the-variants.{At, Vacant};
 ghost use Rattle.calls.specs.Calls.{eventOf, openOf, replyOf, updateOf, decideOf, forgetOf};
-ghost use Rattle.calls.specs.Answers.{numberOf, Gives};
+ghost use Rattle.calls.specs.Answers.{numberOf, Gives, decidedOf};
 ghost use Rattle.cache.specs.Fresh.{Fresh};
 
 // ---- what the numbers of a call say
@@ -42,7 +44,7 @@ fn set_known(s: RoleSet, n: u64) -> bool
     requires { ⌜ n ≤ mostRoles ⌝ }
     ensures { λ b. ⌜ b ≡ partOf (s .bits) (allBelow n) ⌝ }
 {
-    s.is_part_of(RoleSet::all_below(n))
+    s.outside(RoleSet::all_below(n)) == MOST_ROLES
 }
 
 // A role is compared as a number: the set of a role of 64 or more is empty, and would count as known.
@@ -81,29 +83,32 @@ fn row_for(a: &[u8], p: u32) -> Row
     }
 }
 
-fn judge(w: Row, s: RoleSet) -> Answer
+fn judge(w: Row, s: RoleSet) -> Decided
     requires { ⌜ Tidy mostOpens (w .opens) ⌝ }
-    ensures { λ r. ⌜ numberOf r ≡ decide (rowOf w) (s .bits) ⌝ }
+    ensures { λ d. ⌜ decidedOf d ≡ decide (rowOf w) (s .bits) ⌝ }
 {
     match rows::decide(w, s) {
-        Verdict::Deny => Answer::Deny,
-        Verdict::Allow => Answer::Allow,
-        Verdict::Undecided => Answer::Undecided,
+        Verdict::Deny => bare(Answer::Deny),
+        Verdict::Allow => bare(Answer::Allow),
+        Verdict::Undecided(role) => Decided {
+            answer: Answer::Undecided,
+            role,
+        },
     }
 }
 
-pub fn decide(a: &[u8], p: u32, s: u64) -> Answer
-    ensures { λ r. ⌜ numberOf r ≡ decideOf (now (a .entry)) p s .answer ⌝ }
+pub fn decide(a: &[u8], p: u32, s: u64) -> Decided
+    ensures { λ d. ⌜ decidedOf d ≡ decideOf (now (a .entry)) p s ⌝ }
 {
     if !check(a) {
-        return Answer::BadArea;
+        return bare(Answer::BadArea);
     }
     if p == 0 {
-        return Answer::NoPermission;
+        return bare(Answer::NoPermission);
     }
     let session = RoleSet { bits: s };
     if !set_known(session, role_count(a)) {
-        return Answer::UnknownRole;
+        return bare(Answer::UnknownRole);
     }
     judge(row_for(a, p), session)
 }

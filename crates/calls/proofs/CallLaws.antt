@@ -1,22 +1,30 @@
 -- The laws of the calls' definitions, refusal by refusal. Assumes nothing.
-use mathlib.Core.Path.{_≡_, refl, ap, _∙_, subst, subst⁻¹}
+use mathlib.Core.Path.{_≡_, refl, sym, ap, _∙_, subst, subst⁻¹}
 use mathlib.Core.Bool.{Bool, true, false, not, cond, _&&_, _||_, or-true}
-use mathlib.Core.List.{List}
-use mathlib.Core.Logic.{_↔_, ⊎-elim}
+use mathlib.Core.List.{List, [], _∷_}
+use mathlib.Core.Logic.{_↔_, _≢_, ⊎-elim}
 use Prim.Native.Nat.{ℕ, _≤_, _<_}
+use native.Mathlib.Nat.{lt-of-lt-of-le}
+use native.Mathlib.Omega.{arith}
 use borrow.Author.Tests.{eq-eqb, ne-eqb, le-leb, lt-ltb, le-ltb}
 use lib.Dec.{T, eqb, ltb, leb, leb→le, ltb→lt}
 use lib.ListN.{length}
-use Rattle.roles.specs.Sets.{allBelow, partOf, mostRoles}
+use lib.Pow.{pow-mono}
+use Rattle.roles.specs.Sets.{allBelow, Below, partOf, mostRoles}
 use Rattle.roles.specs.declared.RoleSet.{RoleSet}
 use Rattle.roles.proofs.Tests.{T-and, T-or, unlike}
+use Rattle.roles.proofs.Laws.{partOf-allBelow}
+use Rattle.refusals.specs.Refusals.{refusal}
+use Rattle.refusals.proofs.Laws.{refuse-has}
 use Rattle.meaning.specs.declared.Happening.{Happening}
 use Rattle.meaning.specs.declared.Happening.the-variants.{Allow, Deny, Given, Withdrawn}
 use Rattle.meaning.specs.Events.{known, lastPermission, isReply}
-use Rattle.meaning.specs.Rows.{Row, blank, fits, contradicts, step, decide}
+use Rattle.meaning.specs.Rows.{Row, blank, fits, contradicts, step, Decided, bare, decide}
+use Rattle.meaning.proofs.Theorems.{ask-some, ask-none, ask-most}
 use Rattle.area.specs.Layout.{mostRows, areaBytes, goodBytes}
 use Rattle.area.specs.State.{State, opened, isBlank, rowFor, withRow, stateOf}
-use Rattle.calls.specs.Calls.{stays, writes, valid, fitsIn, afterRefusal, eventOn, eventOf, replied, updated, eventFor, openOf, replyOf, updateOf, decideOf, forgetOf}
+use Rattle.area.proofs.Bytes.{good-state}
+use Rattle.calls.specs.Calls.{stays, writes, valid, fitsIn, areaRefusals, afterRefusal, eventOn, eventOf, replied, updated, eventFor, openOf, replyOf, updateOf, decideOf, forgetOf}
 
 pub valid-law : (p : ℕ) → T (valid p) ↔ ((1 ≤ p) × (p ≤ lastPermission))
 valid-law p = (
@@ -156,21 +164,49 @@ updated-other v r e = ap (λ (b : Bool). cond b (Given r) (Withdrawn r)) (ne-eqb
 -- ---- a decision
 
 module _ (l : List ℕ) (p s : ℕ) where
-  pub decide-bad-area : goodBytes l ≡ false → decideOf l p s ≡ stays 1 l
+  pub decide-bad-area : goodBytes l ≡ false → decideOf l p s ≡ bare 1
   unfolding decideOf
   decide-bad-area h = rw h
 
-  pub decide-no-permission : goodBytes l ≡ true → valid p ≡ false → decideOf l p s ≡ stays 3 l
+  pub decide-no-permission : goodBytes l ≡ true → valid p ≡ false → decideOf l p s ≡ bare 3
   unfolding decideOf
   decide-no-permission h v = rw (h, v)
 
-  pub decide-unknown : goodBytes l ≡ true → valid p ≡ true → partOf s (allBelow (stateOf l .roles)) ≡ false → decideOf l p s ≡ stays 4 l
+  pub decide-unknown : goodBytes l ≡ true → valid p ≡ true → partOf s (allBelow (stateOf l .roles)) ≡ false → decideOf l p s ≡ bare 4
   unfolding decideOf
   decide-unknown h v k = rw (h, v, k)
 
-  pub decide-decides : goodBytes l ≡ true → valid p ≡ true → partOf s (allBelow (stateOf l .roles)) ≡ true → decideOf l p s ≡ stays (decide (rowFor p (stateOf l .rows)) s) l
+  pub decide-decides : goodBytes l ≡ true → valid p ≡ true → partOf s (allBelow (stateOf l .roles)) ≡ true → decideOf l p s ≡ decide (rowFor p (stateOf l .rows)) s
   unfolding decideOf
   decide-decides h v k = rw (h, v, k)
+
+  -- what every refusal has, and every row's decision
+  decide-has : (P : Decided → Type 0) → ((a : ℕ) → P (bare a)) → ((w : Row) → P (decide w s)) → P (decideOf l p s)
+  unfolding decideOf
+  decide-has P r d = refuse-has bare (decide (rowFor p (stateOf l .rows)) s) P (areaRefusals l p (refusal 4 (not (partOf s (allBelow (stateOf l .roles)))) ∷ [])) r (d (rowFor p (stateOf l .rows)))
+
+  -- a role is named with 12 alone
+  pub decide-bare : decideOf l p s .answer ≢ 12 → decideOf l p s .role ≡ mostRoles
+  decide-bare = decide-has (λ d. d .answer ≢ 12 → d .role ≡ mostRoles) (λ a n. refl) (λ w. ask-none w s)
+
+  pub decide-asks : decideOf l p s .answer ≡ 12 → decideOf l p s .role ≢ mostRoles
+  decide-asks u = go (goodBytes l) refl (valid p) refl (partOf s (allBelow (stateOf l .roles))) refl
+    where
+      not-12 : (a : ℕ) → T (not (eqb a 12)) → decideOf l p s ≡ bare a → ⊥
+      not-12 a d e = unlike d (sym (ap (λ (x : Decided). x .answer) e) ∙ u)
+
+      go : (a : Bool) → goodBytes l ≡ a → (b : Bool) → valid p ≡ b → (c : Bool) → partOf s (allBelow (stateOf l .roles)) ≡ c → decideOf l p s .role ≢ mostRoles
+      go false g b v c k = absurd (not-12 1 tt (decide-bad-area g))
+      go true g false v c k = absurd (not-12 3 tt (decide-no-permission g v))
+      go true g true v false k = absurd (not-12 4 tt (decide-unknown g v k))
+      go true g true v true k =
+          let e = decide-decides g v k in
+          let few : stateOf l .roles ≤ mostRoles = good-state l (subst⁻¹ T g tt) .most-roles in
+          let below : Below mostRoles s = lt-of-lt-of-le (partOf-allBelow (stateOf l .roles) s .0 (subst⁻¹ T k tt)) (pow-mono few) in
+          subst⁻¹ (λ (d : Decided). d .role ≢ mostRoles) e (ask-some (rowFor p (stateOf l .rows)) s below (sym (ap (λ (d : Decided). d .answer) e) ∙ u))
+
+  pub decide-role : decideOf l p s .role ≤ mostRoles
+  decide-role = decide-has (λ d. d .role ≤ mostRoles) (λ a. omega arith) (λ w. ask-most w s)
 
 -- ---- forgetting
 

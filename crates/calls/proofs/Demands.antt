@@ -23,6 +23,9 @@ kinds = streams.kinds
 pub demand-2 : demands.Demand2
 demand-2 = decisions.demand-2
 
+pub whom : demands.Whom
+whom = decisions.whom
+
 pub no-other : demands.NoOther
 no-other = decisions.no-other
 
@@ -43,6 +46,9 @@ reordered = areas.reordered
 
 pub one-outcome : demands.OneOutcome
 one-outcome = numbers.one-outcome
+
+pub one-decision : demands.OneDecision
+one-decision = numbers.one-decision
 
 pub readings : Readings
 readings = read.readings

@@ -11,19 +11,20 @@ use lib.ListN.{length}
 use Rattle.roles.specs.Sets.{single, allBelow, partOf, mostRoles}
 use Rattle.roles.proofs.Tests.{T?, T-and, T-true, T-false}
 use Rattle.roles.proofs.Laws.{partOf-allBelow, single-below, below-single}
-use Rattle.refusals.specs.Refusals.{Refusal, refusal, refuse, Ground, ground}
+use Rattle.refusals.specs.Refusals.{Refusal, refusal, refuse, Ground, ground, Exactly}
 use Rattle.refusals.proofs.Laws.{lacks, distinct, Tests, refuse-has, refuse-exactly}
 use Rattle.meaning.specs.declared.Happening.{Happening}
 use Rattle.meaning.specs.declared.Happening.the-variants.{Allow, Deny, Given, Withdrawn}
 use Rattle.meaning.specs.Events.{rolesIn, known, Verdict, isReply}
-use Rattle.meaning.specs.Rows.{Row, blank, hasPart, contradicts, step, fits, decide}
+use Rattle.meaning.specs.Rows.{Row, blank, contradicts, step, fits, bare, decide}
 use Rattle.meaning.proofs.Answers.{fits-law}
+use Rattle.meaning.proofs.Theorems.{one-of-three}
 use Rattle.area.specs.Layout.{mostRows, areaBytes, goodBytes}
 use Rattle.area.specs.State.{State, opened, isBlank, rowFor, withRow, stateOf}
 use Rattle.calls.specs.Calls.{Out, stays, writes, valid, fitsIn, openRefusals, areaRefusals, eventRefusals, noRoom, afterRefusal, eventOn, replied, updated, eventFor, openOf, decideOf, forgetOf}
+use Rattle.calls.specs.Histories.{outOf}
 use Rattle.calls.specs.Demands.{OnGrounds, IsRecorded, areaGrounds, NoPlace, eventGrounds, Demand1}
 use Rattle.calls.proofs.CallLaws.{valid-law, fitsIn-law, fitsIn-over, fitsIn-blank, fitsIn-room, reply-is, update-is}
-use Rattle.calls.proofs.Outcomes.{decide-stays}
 
 -- ---- what the tests say
 
@@ -171,34 +172,25 @@ update-kind k r = go (eqb k 1)
     go true = refl
     go false = refl
 
-verdict-is : (w : Row) (s : ℕ) → Verdict (decide w s)
-unfolding decide
-verdict-is w s = go (partOf s (w .denied)) (hasPart s (w .opens))
-  where
-    go : (a b : Bool) → Verdict (cond a 10 (cond b 11 12))
-    go true b = inl refl
-    go false true = inr (inl refl)
-    go false false = inr (inr refl)
-
 module _ (l : List ℕ) where
   -- what leaves every byte
   staying : (R : ℕ → Type 0) (o : Out) → R (o .answer) → (o .answer ≢ 0 → o .answer ≢ 8 → o .area ≡ l) → (rs : List Refusal) (gs : List Ground) → Tests rs gs → T (distinct rs) → T (lacks (o .answer) rs)
       → OnGrounds l (refuse rs (λ a. stays a l) o) gs R
   staying = on-grounds l (λ a. stays a l) (λ a. refl) (λ a d. refl)
 
-  decide-answers : (p s : ℕ) → OnGrounds l (decideOf l p s) (areaGrounds l p (ground 4 (2 ^ stateOf l .roles ≤ s) ∷ [])) Verdict
+  decide-answers : (p s : ℕ) → Exactly (decideOf l p s .answer) (areaGrounds l p (ground 4 (2 ^ stateOf l .roles ≤ s) ∷ [])) Verdict
   unfolding decideOf
   decide-answers p s =
-      let a = decide (rowFor p (stateOf l .rows)) s in
-      let v = verdict-is (rowFor p (stateOf l .rows)) s in
+      let d = decide (rowFor p (stateOf l .rows)) s in
+      let v = one-of-three (rowFor p (stateOf l .rows)) s in
       let own : List Refusal = refusal 4 (not (partOf s (allBelow (stateOf l .roles)))) ∷ [] in
       let own-grounds : List Ground = ground 4 (2 ^ stateOf l .roles ≤ s) ∷ [] in
-      staying Verdict (stays a l) v (λ x y. refl) (areaRefusals l p own) (areaGrounds l p own-grounds)
+      refuse-exactly bare d (λ x. x .answer) (λ a. refl) Verdict (areaRefusals l p own) (areaGrounds l p own-grounds)
       (area-tests l p own own-grounds (refl, unknown-set (stateOf l .roles) s, tt)) tt
-      (⊎-elim (λ e. rw e tt) (⊎-elim (λ e. rw e tt) (λ e. rw e tt)) v)
+      (⊎-elim (λ e. rw e tt) (⊎-elim (λ e. rw e tt) (λ e. rw e tt)) v) v
 
 pub demand-1 : Demand1
-unfolding openOf forgetOf
+unfolding openOf forgetOf outOf
 demand-1 = record {
   open-answers = λ l n. staying l IsRecorded (writes 0 (opened n)) refl (recorded l (opened n)) (openRefusals l n) _ (
     refl,
@@ -210,7 +202,7 @@ demand-1 = record {
   update-answers = λ l p k r. subst⁻¹ (λ (o : Out). OnGrounds l o (eventGrounds l p k (updated k r) (stateOf l .roles ≤ r) 8) IsRecorded) (update-is l p k r)
       (event-answers l p k (updated k r) _ (unknown-update (stateOf l .roles) k r) 8 (rw (update-kind k r)));
   decide-answers = decide-answers;
-  decide-unchanged = decide-stays;
+  decide-unchanged = λ l p s. refl;
   forget-answers = λ l p. staying l IsRecorded (writes 0 (withRow (stateOf l) p blank)) refl (recorded l (withRow (stateOf l) p blank)) (areaRefusals l p []) _
       (area-tests l p [] [] tt) tt tt;
 }

@@ -20,7 +20,7 @@ use Rattle.area.proofs.RowLaws.{rowFor-put-same, rowFor-put-other}
 use Rattle.calls.specs.Calls.{Out, stays, writes, replied, updated, openOf, replyOf, updateOf, decideOf, forgetOf}
 use Rattle.calls.specs.Histories.{Call, opening, reply, update, ask, forget, outOf, trailOn, trailAfter, rolesAfter, History, next, Begun, begin, going}
 use Rattle.calls.proofs.CallLaws.{open-law}
-use Rattle.calls.proofs.Outcomes.{Outcome, refused, recorded, forgotten, drop-state, reply-on, update-on, decide-stays, forget-on}
+use Rattle.calls.proofs.Outcomes.{Outcome, refused, recorded, forgotten, drop-state, reply-on, update-on, forget-on}
 
 pub record Holds (h : History) : Type 0 where
   pub state : State
@@ -143,7 +143,7 @@ module _ (h : History) (k : Holds h) where
   next-holds (opening n) = open-holds n
   next-holds (reply p v t) = event-holds p (replied v t) (replyOf (h .area) p v t) (subst⁻¹ (λ (l : List ℕ). Outcome (k .state) p (replied v t) (replyOf l p v t)) (k .area) (reply-on (k .state) (k .good) p v t))
   next-holds (update p u r) = event-holds p (updated u r) (updateOf (h .area) p u r) (subst⁻¹ (λ (l : List ℕ). Outcome (k .state) p (updated u r) (updateOf l p u r)) (k .area) (update-on (k .state) (k .good) p u r))
-  next-holds (ask p t) = make (k .state) (k .good) (k .roles) (decideOf (h .area) p t .area) (decide-stays (h .area) p t ∙ k .area) (h .trail) belongs
+  next-holds (ask p t) = make (k .state) (k .good) (k .roles) (h .area) (k .area) (h .trail) belongs
   next-holds (forget p) = forget-holds p
 
 pub begun-holds : {h : History} → Begun h → Holds h

@@ -3,9 +3,11 @@ use mathlib.Core.Path.{_≡_, refl, sym, ap, _∙_}
 use mathlib.Core.Bool.{cond}
 use Prim.Native.Nat.{ℕ}
 use lib.Dec.{eqb}
+use Rattle.meaning.specs.Rows as meaning
 use Rattle.calls.specs.declared.Answer.{Answer}
+use Rattle.calls.specs.declared.Decided.{Decided}
 use Rattle.calls.specs.declared.Answer.the-variants.{Recorded, BadArea, BadRoleCount, NoPermission, UnknownRole, BadVerdict, Contradiction, Full, Forgotten, Unreadable, Deny, Allow, Undecided}
-use Rattle.calls.specs.Answers.{numberOf}
+use Rattle.calls.specs.Answers.{numberOf, decidedOf}
 use Rattle.calls.specs.Demands as demands
 
 -- the answer of a number
@@ -32,3 +34,8 @@ answer-back Undecided = refl
 
 pub one-outcome : demands.OneOutcome
 one-outcome o r s l m g h = (sym (answer-back r) ∙ ap answerOf (g .answer ∙ sym (h .answer)) ∙ answer-back s, g .area ∙ sym (h .area))
+
+pub one-decision : demands.OneDecision
+one-decision d r s g h =
+    let same : decidedOf r ≡ decidedOf s = g ∙ sym h in
+    λ i. record { answer = (sym (answer-back (r .answer)) ∙ ap (λ (x : meaning.Decided). answerOf (x .answer)) same ∙ answer-back (s .answer)) i; role = same i .role }

@@ -12,7 +12,7 @@ use Rattle.roles.specs.Sets.{mostRoles}
 use Rattle.roles.proofs.Tests.{T-true}
 use Rattle.meaning.specs.declared.Happening.{Happening}
 use Rattle.meaning.specs.Events.{known, isReply}
-use Rattle.meaning.specs.Rows.{Row, blank, Leaves, fits, contradicts, step, rowAfter}
+use Rattle.meaning.specs.Rows.{Row, blank, Leaves, fits, contradicts, step, rowAfter, Decided}
 use Rattle.meaning.proofs.Kept.{blank-good}
 use Rattle.meaning.proofs.Trails.{blank-leaves}
 use Rattle.meaning.proofs.Theorems.{canonical}
@@ -188,5 +188,5 @@ others h g p c (update q k r) d a =
     let o = other-stays c p (outOf c (h .area) .answer) (h .roles) (h .trail p) d in
     event-others h (next c h) x (next-holds h x c) p (update q k r) k (updated k r) (λ l. update-is l q k r ∙ ap (λ (z : ℕ). eventFor l z k (updated k r)) a)
     (λ t. ap (λ (z : ℕ). trailOn p z (updated k r) 0 t) a) (o .0) (o .1)
-others h g p c (ask q s) d a = inl (no-other h g c q s (subst⁻¹ (λ (z : ℕ). ¬ (demands.About z c)) a d))
+others h g p c (ask q s) d a = inl (ap (λ (x : Decided). x .answer) (no-other h g c q s (subst⁻¹ (λ (z : ℕ). ¬ (demands.About z c)) a d)))
 others h g p c (forget q) d a = let x = begun-holds g in inl (forgets (next c h) (next-holds h x c) q ∙ sym (forgets h x q))

@@ -18,7 +18,7 @@ use Rattle.area.specs.State.{State, GoodState, rowFor, withRow, stateOf, areaOf
 use Rattle.area.proofs.RowLaws.{rowFor-good, put-good, put-most}
 use Rattle.area.proofs.Bytes.{area-good, area-state}
 use Rattle.calls.specs.Calls.{Out, stays, writes, valid, fitsIn, eventOn, eventOf, replied, updated, eventFor, replyOf, updateOf, decideOf, forgetOf}
-use Rattle.calls.proofs.CallLaws.{valid-law, fitsIn-law, event-unknown, event-contradicts, event-unfit, event-recorded, reply-is, update-is, for-no-permission, for-bad-verdict, for-good, decide-bad-area, decide-no-permission, decide-unknown, decide-decides, forget-no-permission, forget-forgets}
+use Rattle.calls.proofs.CallLaws.{valid-law, fitsIn-law, event-unknown, event-contradicts, event-unfit, event-recorded, reply-is, update-is, for-no-permission, for-bad-verdict, for-good, decide-decides, forget-no-permission, forget-forgets}
 
 -- ---- states with another row
 
@@ -101,11 +101,11 @@ module _ (s : State) (g : GoodState s) (p : ℕ) where
   pub update-on : (k r : ℕ) → Outcome s p (updated k r) (updateOf (areaOf s) p k r)
   update-on k r = subst⁻¹ (Outcome s p (updated k r)) (update-is (areaOf s) p k r) (event-for k (updated k r))
 
-  pub decide-on : (t : ℕ) → T (valid p) → T (partOf t (allBelow (s .roles))) → decideOf (areaOf s) p t ≡ stays (decide (rowFor p (s .rows)) t) (areaOf s)
+  pub decide-on : (t : ℕ) → T (valid p) → T (partOf t (allBelow (s .roles))) → decideOf (areaOf s) p t ≡ decide (rowFor p (s .rows)) t
   decide-on t v b =
       let st : stateOf (areaOf s) ≡ s = area-state s g in
       decide-decides (areaOf s) p t (area-is-good s g) (T-true (valid p) v) (ap (λ (u : State). partOf t (allBelow (u .roles))) st ∙ T-true (partOf t (allBelow (s .roles))) b)
-      ∙ ap (λ (u : State). stays (decide (rowFor p (u .rows)) t) (areaOf s)) st
+      ∙ ap (λ (u : State). decide (rowFor p (u .rows)) t) st
 
   pub forget-on : (forgetOf (areaOf s) p ≡ stays 3 (areaOf s)) ⊎ (T (valid p) × (forgetOf (areaOf s) p ≡ writes 0 (withRow s p blank)))
   forget-on =
@@ -113,16 +113,3 @@ module _ (s : State) (g : GoodState s) (p : ℕ) where
       (λ v. inr (v, forget-forgets (areaOf s) p (area-is-good s g) (T-true (valid p) v) ∙ ap (λ (u : State). writes 0 (withRow u p blank)) (area-state s g)))
       (λ v. inl (forget-no-permission (areaOf s) p (area-is-good s g) (T-false (valid p) v)))
       (T? (valid p))
-
--- a decision changes nothing
-pub decide-stays : (l : List ℕ) (p t : ℕ) → decideOf l p t .area ≡ l
-decide-stays l p t = go (goodBytes l) refl (valid p) refl (partOf t (allBelow (stateOf l .roles))) refl
-  where
-    same : (a : ℕ) → decideOf l p t ≡ stays a l → decideOf l p t .area ≡ l
-    same a e = ap (λ (o : Out). o .area) e
-
-    go : (a : Bool) → goodBytes l ≡ a → (b : Bool) → valid p ≡ b → (c : Bool) → partOf t (allBelow (stateOf l .roles)) ≡ c → decideOf l p t .area ≡ l
-    go false a b v c k = same 1 (decide-bad-area l p t a)
-    go true a false v c k = same 3 (decide-no-permission l p t a v)
-    go true a true v false k = same 4 (decide-unknown l p t a v k)
-    go true a true v true k = same _ (decide-decides l p t a v k)

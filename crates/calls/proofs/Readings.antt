@@ -7,13 +7,14 @@ use native.Mathlib.Omega.{arith}
 use borrow.Author.Tests.{lt-ltb}
 use lib.Dec.{T, eqb, leb, eqb→eq}
 use lib.ListN.{length}
-use Rattle.roles.specs.Sets.{single, allBelow, joined, common, without, setOf, shares, partOf}
+use lib.Count.{trailingZeros}
+use Rattle.roles.specs.Sets.{single, allBelow, joined, common, without, setOf, shares, partOf, lowest, outside}
 use Rattle.roles.proofs.Tests.{T-and, T-true}
 use Rattle.roles.proofs.Member.{in-empty, partOf-law}
 use Rattle.roles.proofs.Laws.{single-below, partOf-allBelow}
 use Rattle.meaning.specs.declared.Happening.{Happening}
 use Rattle.meaning.specs.Events.{rolesIn, known, isReply}
-use Rattle.meaning.specs.Rows.{Row, blank, Good, hasPart, hasProperPart, losing, apart, reduce, denying, allowing, clearing, giving, withdrawing, contradicts, step, fits, Settled, unchanged, forgotten, overflow, settle, decide}
+use Rattle.meaning.specs.Rows.{Row, blank, Good, hasPart, hasProperPart, losing, apart, reduce, denying, allowing, clearing, giving, withdrawing, contradicts, step, fits, Settled, unchanged, forgotten, overflow, settle, Decided, bare, undecided, decide}
 use Rattle.meaning.specs.Lists.{any, keep, put, inOrder}
 use Rattle.meaning.proofs.Theorems.{settle-good, settle-fits}
 use Rattle.meaning.proofs.Kept.{blank-good}
@@ -24,7 +25,7 @@ use Rattle.area.proofs.Bytes.{area-state}
 use Rattle.area.proofs.RowLaws.{isBlank-law, Hit, hit-law, put-not, rowFor-put-same}
 use Rattle.calls.specs.Calls.{Out, stays, writes, valid, fitsIn, eventOn, replied, updated, eventFor, openOf, replyOf, decideOf}
 use Rattle.calls.specs.Histories.{Call, opening, reply, update, ask, forget, outOf, History, afterOpening, next, afterAll, history}
-use Rattle.calls.specs.Readings.{answers, Answered, Kept, Readings}
+use Rattle.calls.specs.Readings.{answers, Answered, Kept, Asks, Readings}
 use Rattle.calls.proofs.CallLaws.{open-law, fitsIn-blank, fitsIn-room, event-contradicts, event-unfit, event-recorded, reply-is, update-is, for-good, forget-forgets}
 use Rattle.calls.proofs.Outcomes.{put-state, area-is-good, event-is, decide-on}
 
@@ -48,8 +49,8 @@ module _ (s : State) (g : GoodState s) (p : ℕ) (v : T (valid p)) where
     no-row : rowFor p (s .rows) ≡ blank
     no-row = isBlank-law (rowFor p (s .rows)) .0 b
 
-    decide-none : (t a : ℕ) → T (partOf t (allBelow (s .roles))) → decide blank t ≡ a → decideOf (areaOf s) p t .answer ≡ a
-    decide-none t a k e = ap (λ (o : Out). o .answer) (decide-on s g p t v k) ∙ ap (λ (w : Row). decide w t) no-row ∙ e
+    decide-none : (t : ℕ) (a : Decided) → T (partOf t (allBelow (s .roles))) → decide blank t ≡ a → decideOf (areaOf s) p t ≡ a
+    decide-none t a k e = decide-on s g p t v k ∙ ap (λ (w : Row). decide w t) no-row ∙ e
 
     -- nothing is denied, so the rows stay as they are
     deny-none : replyOf (areaOf s) p 0 0 ≡ stays 0 (areaOf s)
@@ -147,7 +148,7 @@ does : Call → Row → Settled
 does (opening n) w = unchanged 0 blank
 does (reply p v s) w = settle (replied v s) w
 does (update p k r) w = settle (updated k r) w
-does (ask p s) w = unchanged (decide w s) w
+does (ask p s) w = unchanged (decide w s .answer) w
 does (forget p) w = unchanged 0 blank
 
 module _ (w : Row) (k : Sound w) where
@@ -157,6 +158,13 @@ module _ (w : Row) (k : Sound w) where
         event-for (only w) (only-good w k) 5 v e tt (q .0) ∙ ap (eventOn (areaOf (only w)) (only w) 5 e) (its-row w) ∙ event-does w e (q .1),
         record { good = settle-good 8 e w (k .good) (q .1); fit = settle-fits e w (k .fit) },
       )
+
+  decide-only : (s : ℕ) → T (partOf s (allBelow 8)) → decideOf (areaOf (only w)) 5 s ≡ decide w s
+  decide-only s b = decide-on (only w) (only-good w k) 5 s tt b ∙ ap (λ (x : Row). decide x s) (its-row w)
+
+  -- the row of 5 in the area
+  area-row : (l : List ℕ) → l ≡ areaOf (only w) → rowFor 5 (stateOf l .rows) ≡ w
+  area-row l e = ap (λ (x : List ℕ). rowFor 5 (stateOf x .rows)) e ∙ ap (λ (s : State). rowFor 5 (s .rows)) (area-state (only w) (only-good w k)) ∙ its-row w
 
   call-does : (c : Call) → T (fine c) → (outOf c (areaOf (only w)) ≡ writes (does c w .answer) (only (does c w .row))) × Sound (does c w .row)
   unfolding outOf fine does
@@ -171,7 +179,7 @@ module _ (w : Row) (k : Sound w) where
       (rw (eqb→eq p 5 (q .0)) (update-is (areaOf (only w)) 5 u r ∙ o .0), o .1)
   call-does (ask p s) f =
       let q = T-and (eqb p 5) _ .0 f in
-      (rw (eqb→eq p 5 (q .0)) (decide-on (only w) (only-good w k) 5 s tt (q .1) ∙ ap (λ (x : Row). stays (decide x s) (areaOf (only w))) (its-row w)), k)
+      (rw (eqb→eq p 5 (q .0)) (ap (λ (d : Decided). stays (d .answer) (areaOf (only w))) (decide-only s (q .1))), k)
   call-does (forget p) f = (
     rw (eqb→eq p 5 f) (forget-forgets (areaOf (only w)) 5 (area-is-good (only w) (only-good w k)) refl
         ∙ ap (λ (s : State). writes 0 (withRow s 5 blank)) (area-state (only w) (only-good w k)) ∙ ap (writes 0) (put-again w blank)),
@@ -192,18 +200,18 @@ left [] w = w
 left (c ∷ cs) w = left cs (does c w .row)
 
 run : (cs : List Call) (w : Row) → Sound w → T (allFine cs) → (h : History) → h .area ≡ areaOf (only w)
-    → (answers cs (h .area) ≡ told cs w) × (rowFor 5 (stateOf (afterAll cs h .area) .rows) ≡ left cs w)
+    → (answers cs (h .area) ≡ told cs w) × (afterAll cs h .area ≡ areaOf (only (left cs w))) × Sound (left cs w)
 unfolding answers told left afterAll next allFine
-run [] w k f h e = (refl, ap (λ (l : List ℕ). rowFor 5 (stateOf l .rows)) e ∙ ap (λ (s : State). rowFor 5 (s .rows)) (area-state (only w) (only-good w k)) ∙ its-row w)
+run [] w k f h e = (refl, e, k)
 run (c ∷ cs) w k f h e =
     let q = T-and (fine c) (allFine cs) .0 f in
     let d = call-does w k c (q .0) in
     let o : outOf c (h .area) ≡ writes (does c w .answer) (only (does c w .row)) = ap (outOf c) e ∙ d .0 in
     let r = run cs (does c w .row) (d .1) (q .1) (next c h) (ap (λ (x : Out). x .area) o) in
-    (ap₂ {C = List ℕ} (λ (a : ℕ) (l : List ℕ). a ∷ l) (ap (λ (x : Out). x .answer) o) (r .0), r .1)
+    (ap₂ {C = List ℕ} (λ (a : ℕ) (l : List ℕ). a ∷ l) (ap (λ (x : Out). x .answer) o) (r .0), r .1, r .2)
 
 -- from any opening
-from : (cs : List Call) → T (allFine cs) → (l : List ℕ) → openOf l 8 .answer ≡ 0 → (answers cs (openOf l 8 .area) ≡ told cs blank) × (rowFor 5 (stateOf (history l 8 cs .area) .rows) ≡ left cs blank)
+from : (cs : List Call) → T (allFine cs) → (l : List ℕ) → openOf l 8 .answer ≡ 0 → (answers cs (openOf l 8 .area) ≡ told cs blank) × (history l 8 cs .area ≡ areaOf (only (left cs blank))) × Sound (left cs blank)
 unfolding states.put states.one
 from cs f l o = run cs blank blank-sound f (afterOpening l 8) (ap (λ (x : Out). x .area) (open-law l 8 o .0))
 
@@ -211,25 +219,33 @@ answered : (cs : List Call) (ns : List ℕ) → T (allFine cs) → told cs blank
 answered cs ns f e l o = from cs f l o .0 ∙ e
 
 kept : (cs : List Call) (w : Row) → T (allFine cs) → told cs blank ≡ map (λ c. 0) cs → left cs blank ≡ w → Kept cs w
-kept cs w f a e = (answered cs (map (λ c. 0) cs) f a, λ l o. from cs f l o .1 ∙ e)
+kept cs w f a e = (answered cs (map (λ c. 0) cs) f a, λ l o. let r = from cs f l o in area-row (left cs blank) (r .2) (history l 8 cs .area) (r .1) ∙ e)
+
+asks : (cs : List Call) (s : List ℕ) (q : ℕ) → T (allFine cs) → T (partOf (setOf s) (allBelow 8)) → decide (left cs blank) (setOf s) ≡ undecided q → Asks cs s q
+asks cs s q f b e l o = let r = from cs f l o in ap (λ (x : List ℕ). decideOf x 5 (setOf s)) (r .1) ∙ decide-only (left cs blank) (r .2) (setOf s) b ∙ e
 
 pub readings : Readings
-unfolding single allBelow joined common without setOf shares partOf rolesIn known any keep put inOrder hasPart hasProperPart losing apart reduce denying allowing clearing giving withdrawing contradicts step fits overflow settle decide allFine fine told left does
+unfolding single allBelow joined common without setOf shares partOf rolesIn known any keep put inOrder hasPart hasProperPart losing apart reduce denying allowing clearing giving withdrawing contradicts step fits overflow settle lowest outside trailingZeros decide allFine fine told left does
 readings = record {
-  no-row-empty-session = λ s g p v b. decide-none s g p v b 0 10 (empty-part (allBelow (s .roles))) refl;
-  no-row-role-0 = λ s g p v b. decide-none s g p v b 1 12 (partOf-allBelow (s .roles) 1 .1 (single-below (s .roles) 0 (g .some-roles))) refl;
+  no-row-empty-session = λ s g p v b. decide-none s g p v b 0 (bare 10) (empty-part (allBelow (s .roles))) refl;
+  no-row-role-0 = λ s g p v b. decide-none s g p v b 1 (undecided 0) (partOf-allBelow (s .roles) 1 .1 (single-below (s .roles) 0 (g .some-roles))) refl;
   allow-nobody = allow-none;
   deny-nobody = deny-none;
   no-row = answered _ _ tt refl;
   deny-nobody-kept = kept _ _ tt refl refl;
+  lowest-asked = asks _ (3 ∷ 4 ∷ []) _ tt tt refl;
   withdrawn = answered _ _ tt refl;
+  withdrawn-asks = asks _ (3 ∷ []) _ tt tt refl;
+  denied-not-asked = asks _ (2 ∷ 3 ∷ []) _ tt tt refl;
   denied = answered _ _ tt refl;
   smaller-then-larger = kept _ _ tt refl refl;
   larger-then-smaller = kept _ _ tt refl refl;
   given = answered _ _ tt refl;
   allow-then-deny = answered _ _ tt refl;
   common-role = answered _ _ tt refl;
+  common-role-asks = asks _ (2 ∷ []) _ tt tt refl;
   forgotten = answered _ _ tt refl;
   worked-row = kept _ _ tt refl refl;
   worked-answers = answered _ _ tt refl;
+  worked-asks = asks _ (1 ∷ 5 ∷ []) _ tt tt refl;
 }

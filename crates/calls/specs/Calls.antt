@@ -1,4 +1,4 @@
--- The calls: what each answers, and the bytes of the lent area after it, as the table of Rules, Answers, reads.
+-- The calls: what each answers, and the bytes of the lent area after it, as the table of Rules, Answers, reads; what decide gives.
 --     Out                   an answer with the bytes afterwards
 --     stays a l, writes a s the answer a, and the bytes l, or those of the state s
 --     valid p               p is a permission, 1 to 4,294,967,295
@@ -9,7 +9,8 @@
 --     eventOn, eventOf      an event on a good area
 --     replied, updated      the happening that a reply's or an update's numbers say
 --     eventFor              an event that came in with a verdict or a kind
---     openOf, replyOf, updateOf, decideOf, forgetOf    the calls, refusals in the order 1, 2, 3, 5, 4, 6, then 7 or 8
+--     openOf, replyOf, updateOf, forgetOf    the calls, refusals in the order 1, 2, 3, 5, 4, 6, then 7 or 8
+--     decideOf              decide, refusals in the order 1, 3, 4: an answer and a role, 64 with each refusal; the bytes are only read
 use mathlib.Core.Bool.{Bool, not, cond, _&&_, _||_}
 use mathlib.Core.List.{List, [], _∷_}
 use Prim.Native.Nat.{ℕ}
@@ -20,7 +21,7 @@ use Rattle.refusals.specs.Refusals.{Refusal, refusal, refuse}
 use Rattle.meaning.specs.declared.Happening.{Happening}
 use Rattle.meaning.specs.declared.Happening.the-variants.{Allow, Deny, Given, Withdrawn}
 use Rattle.meaning.specs.Events.{known, isReply, lastPermission}
-use Rattle.meaning.specs.Rows.{Row, blank, fits, contradicts, step, decide}
+use Rattle.meaning.specs.Rows.{Row, blank, fits, contradicts, step, Decided, bare, decide}
 use Rattle.area.specs.Layout.{mostRows, areaBytes, goodBytes}
 use Rattle.area.specs.State.{State, opened, isBlank, rowFor, withRow, stateOf, areaOf}
 
@@ -95,10 +96,8 @@ updateOf l p k r = eventFor l p k (updated k r)
 
 -- ---- decisions and forgetting
 
-unfoldable pub decideOf : List ℕ → ℕ → ℕ → Out
-decideOf l p s =
-    refuse (areaRefusals l p (refusal 4 (not (partOf s (allBelow (stateOf l .roles)))) ∷ [])) (λ a. stays a l)
-    (stays (decide (rowFor p (stateOf l .rows)) s) l)
+unfoldable pub decideOf : List ℕ → ℕ → ℕ → Decided
+decideOf l p s = refuse (areaRefusals l p (refusal 4 (not (partOf s (allBelow (stateOf l .roles)))) ∷ [])) bare (decide (rowFor p (stateOf l .rows)) s)
 
 unfoldable pub forgetOf : List ℕ → ℕ → Out
 forgetOf l p = refuse (areaRefusals l p []) (λ a. stays a l) (writes 0 (withRow (stateOf l) p blank))

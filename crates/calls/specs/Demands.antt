@@ -7,6 +7,7 @@
 --     NoRow l p, Forgetting  p has no row; so it is after 8 and after a forget
 --     Kinds                  what the numbers of a reply and of an update say, and the call by which each event comes in
 --     Demand2                over every history decide says what the possible holder sets of the trail force
+--     Whom                   with 12 it gives the one role to ask about; exactly with any other answer 64, on any bytes
 --     About q c              the call c is about the permission q, as opening is about every one
 --     NoOther                a call about one permission never changes a decision about another
 --     Contradicted           over every history 6 exactly when no possible holder set agrees
@@ -21,7 +22,7 @@
 --     Others                 a call about one permission changes an answer about another only so
 --     Demand3                areas reached from opening are equal exactly when they know the same
 --     Reordered              areas of streams in another order, every event answered 0 in both, are equal
---     OneOutcome             any two outcomes that a call's contract allows are equal
+--     OneOutcome, OneDecision    any two outcomes that a call's contract allows are equal; so are any two of decide
 use mathlib.Core.Path.{_≡_}
 use mathlib.Core.Bool.{true, false}
 use mathlib.Core.List.{List, [], _∷_, _++_}
@@ -36,13 +37,15 @@ use Rattle.refusals.specs.Refusals.{Ground, ground, Exactly}
 use Rattle.meaning.specs.declared.Event.{Event}
 use Rattle.meaning.specs.declared.Happening.{Happening}
 use Rattle.meaning.specs.declared.Happening.the-variants.{Allow, Deny, Given, Withdrawn}
-use Rattle.meaning.specs.Events.{known, agrees, HolderSet, Possible, Verdict, Decides}
+use Rattle.meaning.specs.Events.{known, agrees, HolderSet, Possible, Verdict, Decides, AskAbout}
+use Rattle.meaning.specs.Rows as meaning
 use Rattle.meaning.specs.Rows.{Row, Leaves, contradicts, step}
 use Rattle.area.specs.Layout.{goodBytes}
 use Rattle.area.specs.State.{State, GoodState, isBlank, rowFor, stateOf}
 use Rattle.calls.specs.Calls.{Out, valid, replied, updated, openOf, replyOf, updateOf, decideOf, forgetOf}
 use Rattle.calls.specs.declared.Answer.{Answer}
-use Rattle.calls.specs.Answers.{Gives}
+use Rattle.calls.specs.declared.Decided.{Decided}
+use Rattle.calls.specs.Answers.{Gives, decidedOf}
 use Rattle.calls.specs.Histories.{Call, opening, reply, update, ask, forget, outOf, trailOn, trailAfter, callFor, calls, History, next, history, Begun, Moved, AllRecorded}
 
 -- ---- demand 1: any numbers and any lent bytes get a numbered answer, and answers 1 to 7 leave the lent area as it came
@@ -77,8 +80,9 @@ pub record Demand1 : Type 0 where
   pub open-answers : (l : List ℕ) (n : ℕ) → OnGrounds l (openOf l n) (ground 1 (length l ≢ 18448) ∷ ground 2 (¬ ((1 ≤ n) × (n ≤ 64))) ∷ []) IsRecorded
   pub reply-answers : (l : List ℕ) (p v s : ℕ) → OnGrounds l (replyOf l p v s) (eventGrounds l p v (replied v s) (2 ^ stateOf l .roles ≤ s) 7) IsRecorded
   pub update-answers : (l : List ℕ) (p k r : ℕ) → OnGrounds l (updateOf l p k r) (eventGrounds l p k (updated k r) (stateOf l .roles ≤ r) 8) IsRecorded
-  pub decide-answers : (l : List ℕ) (p s : ℕ) → OnGrounds l (decideOf l p s) (areaGrounds l p (ground 4 (2 ^ stateOf l .roles ≤ s) ∷ [])) Verdict
-  pub decide-unchanged : (l : List ℕ) (p s : ℕ) → decideOf l p s .area ≡ l
+  pub decide-answers : (l : List ℕ) (p s : ℕ) → Exactly (decideOf l p s .answer) (areaGrounds l p (ground 4 (2 ^ stateOf l .roles ≤ s) ∷ [])) Verdict
+  -- as a call of a history; decide itself is lent the area for reading
+  pub decide-unchanged : (l : List ℕ) (p s : ℕ) → outOf (ask p s) l .area ≡ l
   pub forget-answers : (l : List ℕ) (p : ℕ) → OnGrounds l (forgetOf l p) (areaGrounds l p []) IsRecorded
 
 -- p has no row
@@ -103,6 +107,11 @@ pub record Kinds : Type 0 where
 abbrev pub Demand2 : Type 0
 Demand2 = (h : History) → Begun h → (p s : ℕ) → T (valid p) → Below (h .roles) s → Decides (Possible (h .roles) (h .trail p)) s (decideOf (h .area) p s .answer)
 
+-- whom to ask about, where decide says that it is undecided
+pub record Whom : Type 0 where
+  pub undecided : (h : History) → Begun h → (p s r : ℕ) → decideOf (h .area) p s .answer ≡ 12 → (decideOf (h .area) p s .role ≡ r) ↔ AskAbout (Possible (h .roles) (h .trail p)) s r
+  pub otherwise : (l : List ℕ) (p s : ℕ) → (decideOf l p s .role ≡ 64) ↔ (decideOf l p s .answer ≢ 12)
+
 abbrev pub About : ℕ → Call → Type 0
 About q (opening n) = Unit {0}
 About q (reply p v s) = p ≡ q
@@ -111,7 +120,7 @@ About q (ask p s) = p ≡ q
 About q (forget p) = p ≡ q
 
 abbrev pub NoOther : Type 0
-NoOther = (h : History) → Begun h → (c : Call) (q s : ℕ) → ¬ (About q c) → decideOf (next c h .area) q s .answer ≡ decideOf (h .area) q s .answer
+NoOther = (h : History) → Begun h → (c : Call) (q s : ℕ) → ¬ (About q c) → decideOf (next c h .area) q s ≡ decideOf (h .area) q s
 
 abbrev pub Contradicted : Type 0
 Contradicted = (h : History) → Begun h → (p v s : ℕ) → T (valid p) → T (leb v 1) → T (known (h .roles) (replied v s))
@@ -173,3 +182,6 @@ Reordered = (l m : List ℕ) (n : ℕ) (es fs : List Event) → openOf l n .answ
 
 abbrev pub OneOutcome : Type 0
 OneOutcome = (o : Out) (r s : Answer) (l m : List ℕ) → Gives o r l → Gives o s m → (r ≡ s) × (l ≡ m)
+
+abbrev pub OneDecision : Type 0
+OneDecision = (d : meaning.Decided) (r s : Decided) → decidedOf r ≡ d → decidedOf s ≡ d → r ≡ s

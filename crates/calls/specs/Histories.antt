@@ -1,5 +1,5 @@
 -- Calls one after another from an opening, and the trail of each permission: its events answered 0, in order.
---     Call, outOf            a call with any numbers; what it gives
+--     Call, outOf            a call with any numbers; its answer and the bytes afterwards, without the role of a decision
 --     trailAfter q c a t     the trail t of the permission q after the call c was answered a
 --     trailOn q p e a t      the same after an event e about p: one longer on 0, empty on 8, else as it was
 --     rolesAfter c a n       the role count n after the call c was answered a
@@ -22,7 +22,7 @@ use Rattle.meaning.specs.declared.Event.{Event}
 use Rattle.meaning.specs.declared.Happening.{Happening}
 use Rattle.meaning.specs.declared.Happening.the-variants.{Allow, Deny, Given, Withdrawn}
 use Rattle.meaning.specs.Events.{Reply}
-use Rattle.calls.specs.Calls.{Out, replied, updated, openOf, replyOf, updateOf, decideOf, forgetOf}
+use Rattle.calls.specs.Calls.{Out, stays, replied, updated, openOf, replyOf, updateOf, decideOf, forgetOf}
 
 pub data Call : Type 0 where
   opening : (n : ℕ) → Call
@@ -35,7 +35,7 @@ unfoldable pub outOf : Call → List ℕ → Out
 outOf (opening n) l = openOf l n
 outOf (reply p v s) l = replyOf l p v s
 outOf (update p k r) l = updateOf l p k r
-outOf (ask p s) l = decideOf l p s
+outOf (ask p s) l = stays (decideOf l p s .answer) l
 outOf (forget p) l = forgetOf l p
 
 unfoldable pub trailOn : ℕ → ℕ → Happening → ℕ → List Happening → List Happening

@@ -1,6 +1,8 @@
 // The answers of the calls; `specs/Calls.antt` defines the calls themselves.
+use roles::MOST_ROLES;
 ghost use mathlib.Core.Path.{_≡_};
-ghost use Rattle.calls.specs.Answers.{numberOf};
+ghost use Rattle.meaning.specs.Rows.{bare};
+ghost use Rattle.calls.specs.Answers.{numberOf, decidedOf};
 
 // What a call answers, and what a line that can't be read is answered; `numberOf` has the numbers.
 pub enum Answer {
@@ -17,6 +19,22 @@ pub enum Answer {
     Deny,
     Allow,
     Undecided,
+}
+
+// What decide gives: its answer, and the role to ask about, which is MOST_ROLES where there is none.
+pub struct Decided {
+    pub answer: Answer,
+    pub role: u64,
+}
+
+// An answer with no role to ask about.
+pub fn bare(answer: Answer) -> Decided
+    ensures { λ d. ⌜ decidedOf d ≡ bare (numberOf answer) ⌝ }
+{
+    Decided {
+        answer,
+        role: MOST_ROLES,
+    }
 }
 
 // The number of an answer: Rules, Answers.

@@ -7,7 +7,7 @@ use Prim.Native.Nat.{ℕ, _^_, _<_}
 use lib.Dec.{T, not-T}
 use lib.Pow.{pow-pos}
 use Rattle.roles.specs.Sets.{single, joined, without, shares, partOf}
-use Rattle.roles.proofs.Member.{in-without, set-ext, some-in, shares-law, partOf-law, outside-law}
+use Rattle.roles.proofs.Member.{in-without, set-ext, some-in, shares-law, partOf-law, notPart-law}
 use Rattle.roles.proofs.Laws.{in⇒nonempty, in-own-single, shares-at, shares-partOf, shares-joined, joined-below, without-below, without-partOf, without-apart}
 use Rattle.meaning.specs.Events.{rolesIn, known}
 use Rattle.meaning.specs.Lists.{Mem, put}
@@ -42,7 +42,7 @@ reduced-good n d l b f =
 -- what is left of s without d, where s is not part of d
 rest-fit : (n s d : ℕ) → s < 2 ^ n → T (not (partOf s d)) → Fit n d (without s d)
 rest-fit n s d b t =
-    let p = outside-law s d t in
+    let p = notPart-law s d t in
     record {
       below = without-below n s d b;
       nonempty = in⇒nonempty (without s d) (p .0) (in-without s d (p .0) .1 (p .1, p .2));

@@ -2,13 +2,13 @@
 use mathlib.Core.Path.{_≡_, sym, subst}
 use mathlib.Core.Bool.{not}
 use mathlib.Core.List.{List, _∷_, _++_}
-use mathlib.Core.Logic.{_↔_, Iff·trans, Iff·symm}
-use Prim.Native.Nat.{ℕ}
+use mathlib.Core.Logic.{_↔_, _≢_, Iff·trans, Iff·symm}
+use Prim.Native.Nat.{ℕ, _≤_}
 use native.Mathlib.Omega.{arith}
 use lib.Dec.{T}
 use lib.ListN.{length}
-use Rattle.roles.specs.Sets.{single, Below}
-use Rattle.meaning.specs.Events.{known, agrees, Effect, Reached, HolderSet, Possible, Decides, Reply}
+use Rattle.roles.specs.Sets.{mostRoles, single, Below}
+use Rattle.meaning.specs.Events.{known, agrees, Effect, Reached, HolderSet, Possible, Verdict, Decides, AskAbout, Reply}
 use Rattle.meaning.specs.Lists.{Mem, Ascending, put}
 use Rattle.meaning.specs.Rows.{Row, blank, Leaves, Good, mostOpens, fits, hasProperPart, apart, reduce, giving, contradicts, step, settle, Settles, rowAfter, Recorded, decide}
 use Rattle.meaning.proofs.OpenLaws as opens
@@ -78,14 +78,39 @@ trail-contradicts n es r e k =
     )
 
 -- demand 2 for one permission: 10, 11 and 12 exactly on their grounds
-pub row-decides : (n : ℕ) (es : List Happening) → Recorded n blank es → (s : ℕ) → Below n s → Decides (Possible n es) s (decide (rowAfter blank es) s)
+pub row-decides : (n : ℕ) (es : List Happening) → Recorded n blank es → (s : ℕ) → Below n s → Decides (Possible n es) s (decide (rowAfter blank es) s .answer)
 row-decides n es r s b =
-    verdicts.decides-same (Leaves n (rowAfter blank es)) (Possible n es) s (decide (rowAfter blank es) s) (row-leaves n es r)
+    verdicts.decides-same (Leaves n (rowAfter blank es)) (Possible n es) s (decide (rowAfter blank es) s .answer) (row-leaves n es r)
     (verdicts.decide-law n (rowAfter blank es) (after-good n blank es (kept.blank-good n) r) s b)
+
+-- any row answers one of the three
+pub one-of-three : (w : Row) (s : ℕ) → Verdict (decide w s .answer)
+one-of-three = verdicts.one-of-three
 
 -- there is one such answer
 pub decides-one : (P : ℕ → Type 0) (s a b : ℕ) → Decides P s a → Decides P s b → a ≡ b
 decides-one = verdicts.decides-one
+
+-- whom to ask about: with 12 the lowest role of the session that some possible holder set has
+pub row-asks : (n : ℕ) (es : List Happening) → n ≤ mostRoles → Recorded n blank es → (s : ℕ) → Below n s → decide (rowAfter blank es) s .answer ≡ 12
+    → AskAbout (Possible n es) s (decide (rowAfter blank es) s .role)
+row-asks n es few r s b u =
+    verdicts.ask-same (Leaves n (rowAfter blank es)) (Possible n es) s (decide (rowAfter blank es) s .role) (row-leaves n es r)
+    (verdicts.ask-law n (rowAfter blank es) s few (after-good n blank es (kept.blank-good n) r) b u)
+
+-- a role with 12 and with no other answer, and no number above 64
+pub ask-some : (w : Row) (s : ℕ) → Below mostRoles s → decide w s .answer ≡ 12 → decide w s .role ≢ mostRoles
+ask-some = verdicts.ask-some
+
+pub ask-none : (w : Row) (s : ℕ) → decide w s .answer ≢ 12 → decide w s .role ≡ mostRoles
+ask-none = verdicts.ask-none
+
+pub ask-most : (w : Row) (s : ℕ) → decide w s .role ≤ mostRoles
+ask-most = verdicts.ask-most
+
+-- there is one such role
+pub ask-one : (P : ℕ → Type 0) (s q r : ℕ) → AskAbout P s q → AskAbout P s r → q ≡ r
+ask-one = verdicts.ask-one
 
 -- neighbouring replies may be swapped
 pub replies-swap : (n : ℕ) (xs ys : List Happening) (e f : Happening) → Reply e → Reply f → (h : ℕ) → Possible n (xs ++ e ∷ f ∷ ys) h ↔ Possible n (xs ++ f ∷ e ∷ ys) h

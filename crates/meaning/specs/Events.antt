@@ -1,5 +1,5 @@
--- What events mean: the holder sets that a trail of them leaves possible, and the verdict that those force. A session may
--- use a permission exactly when one of its roles holds it, as ANSI INCITS 359-2004 has it: it shares a role with the holder set.
+-- What events mean: the holder sets that a trail of them leaves possible, the verdict that those force, and whom to ask about.
+-- A session may use a permission exactly when one of its roles holds it, as ANSI INCITS 359-2004 has it: it shares a role with the holder set.
 --     lastPermission       permissions are 1 to this one
 --     rolesIn e            the roles that an event names
 --     known n e            they all lie below the role count n
@@ -13,14 +13,15 @@
 --     NoneShares, AllShare, OneShares, OneSharesNone    no set, every set, some set of P shares a role with the session; some does not
 --     Verdict a            a is 10, 11 or 12
 --     Decides P s a        a is the answer to the session s that the holder sets P force
+--     AskAbout P s r       r is whom to ask about where s is undecided: the lowest role of s that some holder set of P has
 --     isReply e, Reply e   the event is a reply, and no update
 use mathlib.Core.Path.{_≡_}
 use mathlib.Core.Bool.{Bool, true, false, not}
 use mathlib.Core.List.{List, [], _∷_}
 use mathlib.Core.Logic.{_↔_, _⊎_}
-use Prim.Native.Nat.{ℕ}
+use Prim.Native.Nat.{ℕ, _<_}
 use lib.Dec.{T}
-use Rattle.roles.specs.Sets.{single, allBelow, Below, joined, without, shares, partOf}
+use Rattle.roles.specs.Sets.{In, single, allBelow, Below, joined, without, shares, partOf}
 use Rattle.meaning.specs.declared.Happening.{Happening}
 use Rattle.meaning.specs.declared.Happening.the-variants.{Allow, Deny, Given, Withdrawn}
 
@@ -87,6 +88,11 @@ pub record Decides (P : ℕ → Type 0) (s a : ℕ) : Type 0 where
   pub deny : (a ≡ 10) ↔ NoneShares P s
   pub allow : (a ≡ 11) ↔ AllShare P s
   pub undecided : (a ≡ 12) ↔ (OneShares P s × OneSharesNone P s)
+
+pub record AskAbout (P : ℕ → Type 0) (s r : ℕ) : Type 0 where
+  pub requested : In s r
+  pub possible : (h : ℕ) × P h × In h r
+  pub lowest : (q : ℕ) → q < r → In s q → (h : ℕ) → P h → ¬ (In h q)
 
 abbrev pub isReply : Happening → Bool
 isReply (Allow s) = true

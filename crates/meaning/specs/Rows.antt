@@ -19,7 +19,10 @@
 --     rowAfter w es        the row after a trail
 --     Recorded n w es      every event of the trail names known roles and is answered 0 when it arrives
 --     Settles n e w t      t is the answer and the row exactly on their grounds
---     decide w s           the answer to a session: 10 deny, 11 allow, 12 undecided
+--     Decided              the answer to a session, and the role to ask about
+--     bare a               the answer a, and 64, which is no role
+--     undecided r          12, and the role r
+--     decide w s           the answer to the session s: 10 deny, 11 allow, or 12 undecided, with the lowest role of s that is not denied
 use mathlib.Core.Path.{_≡_}
 use mathlib.Core.Bool.{Bool, false, not, cond, _&&_}
 use mathlib.Core.List.{List, [], _∷_, map}
@@ -27,7 +30,7 @@ use mathlib.Core.Logic.{_↔_, _≢_, _⊎_}
 use Prim.Native.Nat.{ℕ, _≤_, _<_}
 use lib.Dec.{T, eqb, leb}
 use lib.ListN.{length}
-use Rattle.roles.specs.Sets.{single, Below, joined, without, shares, partOf}
+use Rattle.roles.specs.Sets.{mostRoles, single, Below, joined, without, shares, partOf, outside}
 use Rattle.meaning.specs.Events.{HolderSet, known, agrees, isReply, Reply}
 use Rattle.meaning.specs.Lists.{Mem, Ascending, any, keep, inOrder}
 use Rattle.meaning.specs.declared.Happening.{Happening}
@@ -148,5 +151,17 @@ pub record Settles (n : ℕ) (e : Happening) (w : Row) (t : Settled) : Type 0 wh
   pub row-refused : (t .answer ≡ 6) ⊎ (t .answer ≡ 7) → t .row ≡ w
   pub row-forgotten : t .answer ≡ 8 → t .row ≡ blank
 
-unfoldable pub decide : Row → ℕ → ℕ
-decide w s = cond (partOf s (w .denied)) 10 (cond (hasPart s (w .opens)) 11 12)
+-- ---- decisions
+
+pub record Decided : Type 0 where
+  pub answer : ℕ
+  pub role : ℕ
+
+abbrev pub bare : ℕ → Decided
+bare a = record { answer = a; role = mostRoles }
+
+abbrev pub undecided : ℕ → Decided
+undecided r = record { answer = 12; role = r }
+
+unfoldable pub decide : Row → ℕ → Decided
+decide w s = cond (partOf s (w .denied)) (bare 10) (cond (hasPart s (w .opens)) (bare 11) (undecided (outside s (w .denied))))

@@ -1,6 +1,7 @@
 // Whether the open sets of a row, which stand in lent bytes, are good. Called with a number of open sets, not a variable, a
 // function here becomes straight code.
 use meaning::MOST_OPENS;
+use roles::MOST_ROLES;
 use roles::RoleSet;
 use words::are_zero;
 use words::get_word;
@@ -31,7 +32,7 @@ fn has_part(a: &[u8], at: usize, i: usize, s: RoleSet) -> bool
         let o = RoleSet {
             bits: get_word(a, at + k),
         };
-        if o.is_part_of(s) {
+        if o.outside(s) == MOST_ROLES {
             return true;
         }
         k += 1;
@@ -62,10 +63,10 @@ fn is_part_of_either(o: RoleSet, s: RoleSet, t: RoleSet, both: RoleSet) -> bool
     requires { ⌜ both .bits ≡ joined (s .bits) (t .bits) ⌝ }
     ensures { λ r. ⌜ r ≡ (partOf (o .bits) (s .bits) || partOf (o .bits) (t .bits)) ⌝ }
 {
-    if !o.is_part_of(both) {
+    if o.outside(both) != MOST_ROLES {
         return false;
     }
-    o.is_part_of(s) | o.is_part_of(t)
+    (o.outside(s) == MOST_ROLES) | (o.outside(t) == MOST_ROLES)
 }
 
 // Whether one of the i words from number `at` on is part of s, the next one, or of t, or s part of t.
@@ -73,7 +74,7 @@ fn has_part_of_two(a: &[u8], at: usize, i: usize, s: RoleSet, t: RoleSet) -> boo
     requires { ⌜ Spans (now a) (at + i + 1) × (s .bits ≡ getD (words (now a)) (at + i) 0) ⌝ }
     ensures { λ r. ⌜ r ≡ (hasPart (s .bits) (take i (drop at (words (now (a .entry))))) || hasPart (t .bits) (take (i + 1) (drop at (words (now (a .entry)))))) ⌝ }
 {
-    if s.is_part_of(t) {
+    if s.outside(t) == MOST_ROLES {
         return true;
     }
     let both = s.joined(t);

@@ -97,9 +97,9 @@ partOf-law s t = (
 )
 
 -- and where it is not, some role of s is outside t
-pub outside-law : (s t : ℕ) → T (not (partOf s t)) → (r : ℕ) × In s r × ¬ (In t r)
+pub notPart-law : (s t : ℕ) → T (not (partOf s t)) → (r : ℕ) × In s r × ¬ (In t r)
 unfolding partOf
-outside-law s t h =
+notPart-law s t h =
     ⊎-elim (λ z. absurd (T-not (eqb (without s t) 0) h z))
     (λ z. let p = some-in (without s t) (z .1) in let q = in-without s t (p .0) .0 (p .1) in (p .0, q .0, q .1))
     (eqb-zero (without s t))

@@ -12,10 +12,16 @@
 --     common s t         the roles of both
 --     without s t        the roles of s that are not in t
 --     setOf l            the set of the roles of a list
+--     lowest s           the lowest role of s, and 64 where it has none below 64
+--     outside s t        the lowest role of s that is not in t, and 64 where there is none below 64
+--     Names s t r        r is 64 exactly where s is part of t; else it is the lowest role that is in s and not in t
+use mathlib.Core.Path.{_≡_}
 use mathlib.Core.Bool.{Bool, not}
 use mathlib.Core.List.{List, [], _∷_}
+use mathlib.Core.Logic.{_↔_, _≢_}
 use Prim.Native.Nat.{ℕ, _-_, _/_, _%_, _^_, _<_}
 use lib.Bits.{bitAnd, bitOr, bitXor}
+use lib.Count.{trailingZeros}
 use lib.Dec.{T, eqb}
 
 abbrev pub mostRoles : ℕ
@@ -60,3 +66,14 @@ shares s t = not (eqb (common s t) 0)
 
 unfoldable pub partOf : ℕ → ℕ → Bool
 partOf s t = eqb (without s t) 0
+
+unfoldable pub lowest : ℕ → ℕ
+lowest s = trailingZeros mostRoles s
+
+unfoldable pub outside : ℕ → ℕ → ℕ
+outside s t = lowest (without s t)
+
+pub record Names (s t r : ℕ) : Type 0 where
+  pub part : (r ≡ mostRoles) ↔ T (partOf s t)
+  pub named : r ≢ mostRoles → In s r × ¬ (In t r)
+  pub first : (q : ℕ) → q < r → In s q → In t q

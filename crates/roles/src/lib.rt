@@ -1,6 +1,6 @@
 // Roles are numbers from 0 on. A set of them is a 64-bit number in which role r is the bit of weight 2^r.
 ghost use mathlib.Core.Path.{_≡_};
-ghost use Rattle.roles.specs.Sets.{has, joined, without, shares, partOf, allBelow, single, below64};
+ghost use Rattle.roles.specs.Sets.{has, joined, without, shares, allBelow, single, below64, outside};
 
 // So many roles there may be, and the last of them.
 pub const MOST_ROLES: u64 = 64;
@@ -47,13 +47,6 @@ impl RoleSet {
         (self.bits >> r) % 2 == 1
     }
 
-    // Whether every role of this set is in the other.
-    pub fn is_part_of(self, o: RoleSet) -> bool
-        ensures { λ b. ⌜ b ≡ partOf (self .bits) (o .bits) ⌝ }
-    {
-        self.bits ^ (self.bits & o.bits) == 0
-    }
-
     // Whether some role is in both.
     pub fn shares(self, o: RoleSet) -> bool
         ensures { λ b. ⌜ b ≡ shares (self .bits) (o .bits) ⌝ }
@@ -77,5 +70,13 @@ impl RoleSet {
         RoleSet {
             bits: self.bits ^ (self.bits & o.bits),
         }
+    }
+
+    // The lowest role of this set that is not in the other; MOST_ROLES where there is none, as this set is part of the other.
+    pub fn outside(self, o: RoleSet) -> u64
+        ensures { λ r. ⌜ r ≡ outside (self .bits) (o .bits) ⌝ }
+    {
+        let rest = self.without(o);
+        u64::trailing_zeros(rest.bits) as u64
     }
 }

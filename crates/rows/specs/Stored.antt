@@ -4,7 +4,7 @@
 --     padded k, stored k   the open sets of the list k in the first places, zeros behind them
 --     Tidy m l             `l` is so stored, with at most m open sets
 --     rowOf, storedRow     the same for a row
---     answerNumber, verdictNumber    the number of each case: Rules, Answers
+--     answerNumber, decidedOf    the number of each answer, and the decision of each verdict: Rules, Answers
 --     Gives t r            `r` is the answer and the row of t
 use mathlib.Core.Path.{_≡_}
 use mathlib.Core.List.{List, _++_}
@@ -47,10 +47,10 @@ answerNumber Contradiction = 6
 answerNumber Full = 7
 answerNumber Forgotten = 8
 
-abbrev pub verdictNumber : Verdict → ℕ
-verdictNumber Deny = 10
-verdictNumber Allow = 11
-verdictNumber Undecided = 12
+abbrev pub decidedOf : Verdict → meaning.Decided
+decidedOf Deny = meaning.bare 10
+decidedOf Allow = meaning.bare 11
+decidedOf (Undecided r) = meaning.undecided r
 
 pub record Gives (t : meaning.Settled) (r : Settled) : Type 0 where
   pub answer : answerNumber (r .answer) ≡ t .answer

@@ -2,7 +2,7 @@
 use calls::number;
 ghost use mathlib.Core.Path.{_≡_};
 ghost use Rattle.calls.specs.Calls.{openOf, replyOf, updateOf, decideOf, forgetOf};
-ghost use Rattle.wickthrush.specs.Numbers.{Returns};
+ghost use Rattle.wickthrush.specs.Numbers.{Returns, decidedOf};
 
 #[no_mangle]
 pub extern "C" fn wickthrush_open(area: &mut [u8], roles: u64) -> u32
@@ -25,11 +25,23 @@ pub extern "C" fn wickthrush_update(area: &mut [u8], permission: u32, kind: u64,
     number(cache::update(area, permission, kind, role))
 }
 
+// `wickthrush_decided` of the header. C gets it by value, so that a caller who takes it for the answer does not compile.
+#[repr(C)]
+pub struct Decided {
+    pub answer: u32,
+    pub role: u32,
+}
+
 #[no_mangle]
-pub extern "C" fn wickthrush_decide(area: &[u8], permission: u32, set: u64) -> u32
-    ensures { λ n. ⌜ n ≡ decideOf (now (area .entry)) permission set .answer ⌝ }
+pub extern "C" fn wickthrush_decide(area: &[u8], permission: u32, set: u64) -> Decided
+    ensures { λ d. ⌜ decidedOf d ≡ decideOf (now (area .entry)) permission set ⌝ }
 {
-    number(cache::decide(area, permission, set))
+    let d = cache::decide(area, permission, set);
+    let answer = d.answer;
+    Decided {
+        answer: number(answer),
+        role: d.role as u32,
+    }
 }
 
 #[no_mangle]

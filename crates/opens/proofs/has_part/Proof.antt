@@ -9,6 +9,7 @@ use lib.ListN.{length, getD, take, drop}
 use Rattle.words.specs.Words.{words}
 use Rattle.words.proofs.Runs.{spans-again, spans-words, run-word, run-long, length-run}
 use Rattle.roles.specs.Sets.{partOf}
+use Rattle.roles.proofs.Naming.{is-part, is-no-part}
 use Rattle.meaning.specs.Rows.{hasPart}
 use Rattle.meaning.proofs.Walks.{any-hit, any-miss, any-end}
 use Rattle.opens.proofs.has_part.Statement.{statement}
@@ -26,7 +27,7 @@ get-word-requires c κs =
     spans-again p refl (let h = p .enough in omega arith)
 
 -- the word at hand is one of those searched
-module _ (c : tie.After-is-part-of Inv-loop μ-loop) where
+module _ (c : tie.After-outside Inv-loop μ-loop) where
   abbrev s : tie.Start Inv-loop μ-loop
   s = c .before .before .before .before .before
 
@@ -42,18 +43,16 @@ module _ (c : tie.After-is-part-of Inv-loop μ-loop) where
   there : k < length searched
   there = run-long ws (s .args .at) (s .args .i) k (search needs) (spans-words (s .pre))
 
-  here : {t : Bool} → c .is-part-of .result ≡ t → partOf (getD searched k 0) (s .args .s .bits) ≡ t
-  here e =
-      ap (λ (x : ℕ). partOf x (s .args .s .bits)) (run-word ws (s .args .at) (s .args .i) k (search needs) (spans-words (s .pre)) ∙ sym (c .before .get-word .ensures))
-      ∙ sym (c .is-part-of .ensures) ∙ e
+  here : partOf (getD searched k 0) (s .args .s .bits) ≡ partOf (c .before .get-word .result) (s .args .s .bits)
+  here = ap (λ (x : ℕ). partOf x (s .args .s .bits)) (run-word ws (s .args .at) (s .args .i) k (search needs) (spans-words (s .pre)) ∙ sym (c .before .get-word .ensures))
 
 returns : tie.Need-returns Inv-loop μ-loop
 unfolding hasPart
-returns c = any-hit _ (searched (c .before)) (k (c .before)) (c .before .before .before .before .loop .inv) (there (c .before)) (here (c .before) (c .if1 .taken))
+returns c = any-hit _ (searched (c .before)) (k (c .before)) (c .before .before .before .before .loop .inv) (there (c .before)) (here (c .before) ∙ is-part _ _ (omega arith) (c .before .outside .ensures) (c .if1 .taken))
 
 loop-again : tie.Need-loop-again Inv-loop μ-loop
 unfolding hasPart
-loop-again c = any-miss _ (searched (c .before)) (k (c .before)) (c .before .before .before .before .loop .inv) (there (c .before)) (here (c .before) (c .if1 .left))
+loop-again c = any-miss _ (searched (c .before)) (k (c .before)) (c .before .before .before .before .loop .inv) (there (c .before)) (here (c .before) ∙ is-no-part _ _ (omega arith) (c .before .outside .ensures) (c .if1 .left))
 
 returns-2 : tie.Need-returns-2 Inv-loop μ-loop
 unfolding hasPart

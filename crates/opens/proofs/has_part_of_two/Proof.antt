@@ -10,6 +10,7 @@ use Rattle.words.specs.Words.{words}
 use Rattle.words.proofs.Laws.{length-words}
 use Rattle.words.proofs.Runs.{spans-again, run-word, run-long}
 use Rattle.roles.specs.Sets.{partOf}
+use Rattle.roles.proofs.Naming.{is-part, is-no-part}
 use Rattle.meaning.specs.Lists.{any}
 use Rattle.meaning.proofs.Walks.{any-hit, any-miss, any-end}
 use Rattle.opens.proofs.TwoLaws.{partOfEither, two-parts}
@@ -30,7 +31,7 @@ returns c =
     let b = s .pre .0 .enough in
     let earlier = any (partOfEither (s .args .s .bits) (s .args .t .bits)) (take (s .args .i) (drop (s .args .at) ws)) in
     sym (or-true earlier)
-    ∙ ap (λ (x : Bool). earlier || x) (sym (sym (c .before .is-part-of .ensures) ∙ c .if1 .taken))
+    ∙ ap (λ (x : Bool). earlier || x) (sym (is-part _ _ (omega arith) (c .before .outside .ensures) (c .if1 .taken)))
     ∙ two-parts (s .args .s .bits) (s .args .t .bits) ws (s .args .at) (s .args .i) (omega (arith, length-words (s .args .a .now))) (s .pre .1)
 
 get-word-requires : tie.Need-get-word-requires Inv-loop μ-loop
@@ -83,7 +84,7 @@ returns-3 c =
     ap₂ _||_
     (any-end (partOfEither (s .args .s .bits) (s .args .t .bits)) (take (s .args .i) (drop (s .args .at) ws)) (at .loop .k) (at .loop .inv)
     (omega (arith, length-take (s .args .i) (drop (s .args .at) ws))))
-    (sym (sym (at .before .before .before .is-part-of .ensures) ∙ at .before .before .if1 .left))
+    (sym (is-no-part _ _ (omega arith) (at .before .before .before .outside .ensures) (at .before .before .if1 .left)))
     ∙ two-parts (s .args .s .bits) (s .args .t .bits) ws (s .args .at) (s .args .i) (omega (arith, length-words (s .args .a .now))) (s .pre .1)
 
 pub has-part-of-two-spec : {M : Type 1} → statement M

@@ -40,6 +40,7 @@ use denote.Triple.Table.{entered, cited}
 use denote.Triple.Walked.{says, needs, Stays, stay-none, stay-none-slice, gave-slice, walkOf, goes-none, goes-none-slice, goes-gave-slice, Walks, ends-at, walked, walk-meets}
 use denote.Exit.{yes}
 use denote.Triple.Clauses.{ensured, lasts}
+use Rattle.meaning.specs.Rows.{bare}
 use Rattle.walker.specs.Walk.{Walkable, firstRow, startAnswer, started}
 use Rattle.walker.specs.declared.Walker.{Walker}
 use Rattle.walker.specs.declared.Started.{Started}
@@ -179,7 +180,7 @@ module _ {M : Type 1} (𝓤 : URA M) (H : Heap 𝓤) (A : Atoms 𝓤) (W : Given
   writes : (ν : ℕ) (δ : GName) (c : ℕ) → c < 2 ^ 32 → n + mostText ≤ length ds
       → ent 𝓤 (sep 𝓤 (A .lft (ν ∷ []) fullShare) (sem 𝓤 H A (MutSlice (named 0) (ν ∷ []) u8 .own (x δ ds) (buf ∷ [])))) (WriteAnswer 𝓤 H A mem run .pre (to-write ν δ c))
   writes ν δ c c-fits room =
-      qed W (‵ (flft (ν ∷ []) fullShare) ∷ ‵ (MutSlice (named 0) (ν ∷ []) u8 .own (x δ ds) (buf ∷ [])) ∷ []) ∵ says ! (answer-fits m c n ds m-fits c-fits room) $
+      qed W (‵ (flft (ν ∷ []) fullShare) ∷ ‵ (MutSlice (named 0) (ν ∷ []) u8 .own (x δ ds) (buf ∷ [])) ∷ []) ∵ says ! (answer-fits m (bare c) n ds m-fits c-fits room) $
       nothing ! $ move ! (1 ∷ 0 ∷ []) $ join ! $ frame ! $
       nothing ! $ owned ! u32 (Is u32) (uint-makes 𝓤 H A W w32) c _ (refl, c-fits) $ fjoin ! $ owned ! u64 (Is u64) (uint-makes 𝓤 H A W w64) m _ (refl, m-fits) $ fjoin ! $ owned ! usize (Is usize) (uint-makes 𝓤 H A W w64) n _ (refl, n-fits) $ fjoin ! $ move ! (1 ∷ 0 ∷ []) $ fjoin ! $ done !
 
@@ -193,7 +194,7 @@ module _ {M : Type 1} (𝓤 : URA M) (H : Heap 𝓤) (A : Atoms 𝓤) (W : Given
       qed W ((‵ (flft κ q) ⊛ ‵ (flft κ′ q′) ⊛ ‵ ftrue) ∷ ‵ (T.the-row α .own k (T′.lowered k ∷ [])) ∷ ‵ (Held l) ∷ []) ∵ says ! asks $ frame ! $
       nothing ! $ owned ! usize (Is usize) (uint-makes 𝓤 H A W w64) z _ (refl, z-fits) $ fjoin ! $ move ! (2 ∷ 0 ∷ []) $ fjoin ! $ move ! (1 ∷ 0 ∷ []) $ fjoin ! $ done !
 
-  exits : (r : Shown) (u : Val) (zs : List ℕ) → AnswerShown m (startAnswer (now s)) (now s) (firstRow (now s)) n ds r zs → length zs ≡ length ds
+  exits : (r : Shown) (u : Val) (zs : List ℕ) → AnswerShown m (bare (startAnswer (now s))) (now s) (firstRow (now s)) n ds r zs → length zs ≡ length ds
       → ent 𝓤 (⋆ 𝓤 H A ((‵ (flft κ q) ⊛ ‵ (flft κ′ q′) ⊛ ‵ ftrue) ∷ ‵ Own ∷ ‵ (finally u8 γ zs) ∷ ‵ (R.the-row .own r (u ∷ [])) ∷ [])) (Post u)
   exits r u zs c long =
       qed W ((‵ (flft κ q) ⊛ ‵ (flft κ′ q′) ⊛ ‵ ftrue) ∷ ‵ Own ∷ ‵ (finally u8 γ zs) ∷ ‵ (R.the-row .own r (u ∷ [])) ∷ []) ∵
@@ -221,7 +222,7 @@ module _ {M : Type 1} (𝓤 : URA M) (H : Heap 𝓤) (A : Atoms 𝓤) (W : Given
           ∷ ‵ (froom Area l₁ 0) ∷ ‵ (froom (tyInt w64) l₂ 0) ∷ ‵ (froom (tyInt w64) l₄ 0) ∷ ‵ (froom Ref l₇ 0) ∷ ‵ (froom (Buf erased) l₈ 0) ∷ ‵ (froom (tyInt w32) l₉ 0)
           ∷ Dies ((‵ (flft κ q) ⊛ ‵ ftrue) ∷ ‵ (flft κ′ q′) ∷ ‵ Own ∷ ‵ (T.the-row α .own (k .walker) (T′.lowered (k .walker) ∷ [])) ∷ ‵ (Held l) ∷ [])
 
-      rows : (k : Started) → k ≡ started s → WT (T′.lowered (k .walker)) → (l : List ℕ) (z : ℕ) → z < 2 ^ 64 → Wrote ds n (answerText m (k .answer)) l z → length l ≡ length ds → Walkable (now (k .walker .area)) (k .walker .next) × (z ≤ length l)
+      rows : (k : Started) → k ≡ started s → WT (T′.lowered (k .walker)) → (l : List ℕ) (z : ℕ) → z < 2 ^ 64 → Wrote ds n (answerText m (bare (k .answer))) l z → length l ≡ length ds → Walkable (now (k .walker .area)) (k .walker .next) × (z ≤ length l)
           → ent 𝓤 (⋆ 𝓤 H A (Answered k l z)) (Wp 𝓤 H C Λ En parts.t-6 (atReturn 𝓤 H En Post))
       rows k e walker l z z-fits c long asks =
           qed W (Answered k l z) ∵ exec ! C Λ En parts.t-6 (atRet En Post) $
@@ -242,7 +243,7 @@ module _ {M : Type 1} (𝓤 : URA M) (H : Heap 𝓤) (A : Atoms 𝓤) (W : Given
           returns ! (look ! 10 refl) $ forget ! 4 refl $ forget ! 5 refl $ forget ! 6 refl $ forget ! 7 refl $ forget ! 8 refl $ forget ! 9 refl $ forget ! 10 refl $
           keep ! (10 ∷ 17 ∷ 11 ∷ 18 ∷ 12 ∷ 19 ∷ 4 ∷ 20 ∷ 13 ∷ 21 ∷ 5 ∷ 22 ∷ 6 ∷ 23 ∷ 14 ∷ 24 ∷ 15 ∷ 25 ∷ 16 ∷ 26 ∷ 7 ∷ 27 ∷ 8 ∷ 28 ∷ 9 ∷ 29 ∷ 1 ∷ 30 ∷ 2 ∷ 0 ∷ []) $
           free1 ! $ free1 ! $ free1 ! $ free1 ! $ free1 ! $ free1 ! $ free1 ! $ free1 ! $ free1 ! $ free1 ! $ free1 ! $ free1 ! $ free1 ! $ free0 ! $
-          by ! (exits r w (zs .1 .0) (subst (λ (y : Started). AnswerShown m (y .answer) (now (y .walker .area)) (y .walker .next) n ds r (zs .1 .0)) e (answer-shown m (k .answer) (now (k .walker .area)) (k .walker .next) n ds c f)) (long′ ∙ long))))))))
+          by ! (exits r w (zs .1 .0) (subst (λ (y : Started). AnswerShown m (bare (y .answer)) (now (y .walker .area)) (y .walker .next) n ds r (zs .1 .0)) e (answer-shown m (bare (k .answer)) (now (k .walker .area)) (k .walker .next) n ds c f)) (long′ ∙ long))))))))
 
       begins : ent 𝓤 (⋆ 𝓤 H A Entered) (Wp 𝓤 H C Λ En parts.t-1 (atReturn 𝓤 H En Post))
       begins =
@@ -269,8 +270,8 @@ module _ {M : Type 1} (𝓤 : URA M) (H : Heap 𝓤) (A : Atoms 𝓤) (W : Given
           -- [what `write_answer` asks; what is kept of the buffer; what the walker owns; …; the token; what area owns; …; the locals]
           calls-at ! fm (WriteAnswer 𝓤 H A mem run) write-answer-known (to-write ν δ (k .answer)) (and-then ! (load ! (from ! (stop !)) (look ! 14 refl)) (and-then ! (load ! (from ! (stop !)) (look ! 10 refl)) (and-then ! (load ! (from ! (stop !)) (look ! 8 refl)) (and-then ! (load ! (from ! (stop !)) (look ! 15 refl)) (no-more !))))) (λ w.
           use1 W (later (some (λ (z : ℕ). ((‵ (flft (ν ∷ []) fullShare) ⊛ ‵ ftrue) ⊛ ‵ (usize .own z (w ∷ []))) ⊛ raw (ensured 𝓤 H A write-answer.ended (write-answer.clauses 𝓤 H A mem run) (ν ∷ [], tt) (x δ ds, (n, (m, (k .answer, tt)))) tt z)))) (id⊢ 𝓤 _) $ await ! tt $ pick ! (λ z.
-          split ! $ move ! (1 ∷ []) $ use1 W (some (λ (zs : List ℕ × (Unit {0} × (Unit {0} × (Unit {0} × Unit {0})))). ‵ (lasts write-answer.ended (ν ∷ [], tt) (x δ ds, (n, (m, (k .answer, tt)))) zs) ⊛ raw (fact 𝓤 (Wrote ds n (answerText m (k .answer)) (zs .0) z)))) (id⊢ 𝓤 _) $ pick ! (λ zs.
-          split ! $ move ! (1 ∷ []) $ heard ! (Wrote ds n (answerText m (k .answer)) (zs .0) z) (λ c. fsplit ! $ fsplit ! $ move ! (1 ∷ []) $ feqL ! (λ long.
+          split ! $ move ! (1 ∷ []) $ use1 W (some (λ (zs : List ℕ × (Unit {0} × (Unit {0} × (Unit {0} × Unit {0})))). ‵ (lasts write-answer.ended (ν ∷ [], tt) (x δ ds, (n, (m, (k .answer, tt)))) zs) ⊛ raw (fact 𝓤 (Wrote ds n (answerText m (bare (k .answer))) (zs .0) z)))) (id⊢ 𝓤 _) $ pick ! (λ zs.
+          split ! $ move ! (1 ∷ []) $ heard ! (Wrote ds n (answerText m (bare (k .answer))) (zs .0) z) (λ c. fsplit ! $ fsplit ! $ move ! (1 ∷ []) $ feqL ! (λ long.
           move ! (2 ∷ []) $ split ! $ move ! (1 ∷ []) $
           -- [the number; the call's token; the last list; …; what is kept of the buffer; what the walker owns; …; the token; what area owns; …; the locals]
           peeks ! usize (Is usize) (shows 𝓤 H A usize) z (w ∷ []) (λ iz.
@@ -281,7 +282,7 @@ module _ {M : Type 1} (𝓤 : URA M) (H : Heap 𝓤) (A : Atoms 𝓤) (W : Given
           -- [the buffer; its token; …; …; …; what the walker owns; …; the token; what area owns; …; the locals]
           forget ! 10 refl $ forget ! 11 refl $ forget ! 13 refl $ forget ! 16 refl $ forget ! 17 refl $ forget ! 18 refl $
           keep ! (12 ∷ 14 ∷ 15 ∷ 19 ∷ 20 ∷ 21 ∷ 22 ∷ 10 ∷ 11 ∷ 13 ∷ 16 ∷ 17 ∷ 18 ∷ 23 ∷ 24 ∷ 25 ∷ 26 ∷ 27 ∷ 28 ∷ 29 ∷ 30 ∷ 31 ∷ 32 ∷ 33 ∷ 34 ∷ 35 ∷ 7 ∷ 1 ∷ 8 ∷ 5 ∷ 0 ∷ []) $
-          by ! (rows k e (walker-typed k _ is) (zs .0) z (iz .1) c long (walkable k e, answer-inside m (k .answer) n ds m-fits (fits k _ is) wide c)))))))))))))))
+          by ! (rows k e (walker-typed k _ is) (zs .0) z (iz .1) c long (walkable k e, answer-inside m (bare (k .answer)) n ds m-fits (fits k _ is) wide c)))))))))))))))
 
     by-hand : ent 𝓤 (onEntry 𝓤 H A this.signature (κ, (κ′, tt)) (q, (q′, tt)) a vals) (WpFn 𝓤 H C Λ spelt (v ∷ vint w64 m ∷ buf ∷ vint w64 n ∷ []) Post)
     by-hand =
