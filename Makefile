@@ -11,7 +11,7 @@ DESTDIR =
 export PREFIX bindir libdir libexecdir includedir mandir pkgconfigdir DESTDIR
 
 archive := target/made/libwickthrush.a
-program := target/made/gateway
+programs := target/made/gateway target/made/service
 header := include/wickthrush.h
 version = $(shell tools/version)
 # the names that the page of section 3 is found under stand in its first section
@@ -33,7 +33,7 @@ endif
 
 help:
 	@echo 'make lib        the archive $(archive), from the proved source; needs rt'
-	@echo 'make install    header, archive, pkg-config file, the command wickthrush, manual pages;'
+	@echo 'make install    header, archive, pkg-config file, the command wickthrush and its programs, manual pages;'
 	@echo '                what is not built yet is built first, which takes rt'
 	@echo 'make uninstall  takes these files away again'
 	@echo '                both take PREFIX=$(PREFIX), bindir, libdir, libexecdir, includedir, mandir, pkgconfigdir'
@@ -49,8 +49,8 @@ lib: $(archive)
 $(archive): FORCE
 	@tools/build wickthrush
 
-$(program): FORCE
-	@tools/build gateway
+$(programs): FORCE
+	@tools/build $(notdir $@)
 
 # Folders are written into files that shells and pkg-config read, so what would need quoting there is refused.
 names:
@@ -62,7 +62,7 @@ names:
 	    esac; \
 	done
 
-install: names $(archive) $(program)
+install: names $(archive) $(programs)
 	install -d "$$DESTDIR$$includedir" "$$DESTDIR$$libdir" "$$DESTDIR$$pkgconfigdir" "$$DESTDIR$$bindir" \
 	    "$$DESTDIR$$libexecdir/wickthrush" "$$DESTDIR$$mandir/man1" "$$DESTDIR$$mandir/man3"
 	install -m 644 $(header) "$$DESTDIR$$includedir/wickthrush.h"
@@ -70,7 +70,7 @@ install: names $(archive) $(program)
 	sed -e 's|@PREFIX@|$(PREFIX)|' -e 's|@LIBDIR@|$(call in_prefix,$(libdir))|' -e 's|@VERSION@|$(version)|' \
 	    -e 's|@INCLUDEDIR@|$(call in_prefix,$(includedir))|' wickthrush.pc.in >"$$DESTDIR$$pkgconfigdir/wickthrush.pc"
 	chmod 644 "$$DESTDIR$$pkgconfigdir/wickthrush.pc"
-	install -m 755 $(program) "$$DESTDIR$$libexecdir/wickthrush/gateway"
+	install -m 755 $(programs) "$$DESTDIR$$libexecdir/wickthrush"
 	install -m 644 man/help.txt "$$DESTDIR$$libexecdir/wickthrush/help.txt"
 	echo $(version) >"$$DESTDIR$$libexecdir/wickthrush/version"
 	chmod 644 "$$DESTDIR$$libexecdir/wickthrush/version"
@@ -84,8 +84,8 @@ install: names $(archive) $(program)
 
 uninstall: names
 	rm -f "$$DESTDIR$$includedir/wickthrush.h" "$$DESTDIR$$libdir/libwickthrush.a" "$$DESTDIR$$pkgconfigdir/wickthrush.pc"
-	rm -f "$$DESTDIR$$bindir/wickthrush" "$$DESTDIR$$libexecdir/wickthrush/gateway" \
-	    "$$DESTDIR$$libexecdir/wickthrush/help.txt" "$$DESTDIR$$libexecdir/wickthrush/version"
+	rm -f "$$DESTDIR$$bindir/wickthrush"
+	for name in $(notdir $(programs)) help.txt version; do rm -f "$$DESTDIR$$libexecdir/wickthrush/$$name"; done
 	rmdir "$$DESTDIR$$libexecdir/wickthrush" 2>/dev/null || true
 	for name in wickthrush $(calls); do rm -f "$$DESTDIR$$mandir/man3/$$name.3"; done
 	rm -f "$$DESTDIR$$mandir/man1/wickthrush.1"

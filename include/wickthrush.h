@@ -12,11 +12,15 @@
  * UINT64_C(1) << r. A permission is any number but 0.
  *
  * The lent area has WICKTHRUSH_AREA_BYTES bytes and may stand at any address. In each call area points to len bytes
- * that may be read and, except in decide, written; with len 0 it may be null. Their contents and len may be anything.
- * Nothing else is kept: an area may be copied, moved or stored. Areas are independent of each other; the caller sees to
- * it that no call changes an area while another call is using it.
+ * that may be read and, except in decide and the calls that print, written; with len 0 it may be null. Their contents
+ * and len may be anything. Nothing else is kept: an area may be copied, moved or stored. Areas are independent of each
+ * other; the caller sees to it that no call changes an area while another call is using it.
  *
- * Where several refusals apply, the first of this order is given: 1, 2, 3, 5, 4, 6, then 7 or 8.
+ * The calls that print write lines into a buffer that is lent too: out points to out_len bytes that may be written, at
+ * any address, with no byte of the area among them; with out_len 0 it may be null.
+ *
+ * Where several refusals apply, the first of this order is given: 1, 2, 3, 5, 4, 6, then 7 or 8. In the calls that
+ * print it is 1, 18, 16.
  */
 #ifndef WICKTHRUSH_H
 #define WICKTHRUSH_H
@@ -39,7 +43,7 @@ extern "C" {
 
 #define WICKTHRUSH_VERSION_MAJOR 0
 #define WICKTHRUSH_VERSION_MINOR 3
-#define WICKTHRUSH_VERSION_PATCH 0
+#define WICKTHRUSH_VERSION_PATCH 1
 
 /* The bytes of the lent area. */
 #define WICKTHRUSH_AREA_BYTES 18448
@@ -48,6 +52,9 @@ extern "C" {
 #define WICKTHRUSH_MOST_ROLES 64
 #define WICKTHRUSH_MOST_ROWS 128
 #define WICKTHRUSH_MOST_OPEN_SETS 15
+
+/* The fewest bytes of a buffer to print into. No text of a call is longer. */
+#define WICKTHRUSH_PRINT_BYTES 4096
 
 /* No role, as wickthrush_decide gives it with every answer but undecided. It is no bit of a set: do not shift by it. */
 #define WICKTHRUSH_NO_ROLE 64
@@ -69,7 +76,9 @@ enum wickthrush_answer {
     WICKTHRUSH_UNREADABLE = 9, /* of the line program alone: no call gives it */
     WICKTHRUSH_DENY = 10,
     WICKTHRUSH_ALLOW = 11,
-    WICKTHRUSH_UNDECIDED = 12
+    WICKTHRUSH_UNDECIDED = 12,
+    WICKTHRUSH_SHORT_BUFFER = 16,
+    WICKTHRUSH_NO_SUCH_ROW = 18
 };
 
 /* The answer in words, for logs and messages; "unknown" for a number that is no answer. */
@@ -89,6 +98,8 @@ WICKTHRUSH_MUST_USE static inline const char *wickthrush_answer_name(uint32_t an
     case WICKTHRUSH_DENY: return "deny";
     case WICKTHRUSH_ALLOW: return "allow";
     case WICKTHRUSH_UNDECIDED: return "undecided";
+    case WICKTHRUSH_SHORT_BUFFER: return "short buffer";
+    case WICKTHRUSH_NO_SUCH_ROW: return "no such row";
     default: return "unknown";
     }
 }
@@ -156,6 +167,40 @@ WICKTHRUSH_MUST_USE wickthrush_decided wickthrush_decide(const uint8_t *area, si
  * WICKTHRUSH_NO_PERMISSION  permission is 0; area unchanged
  */
 WICKTHRUSH_MUST_USE uint32_t wickthrush_forget(uint8_t *area, size_t len, uint32_t permission);
+
+/* What the calls that print give: one of their answers, and how many bytes were written, from the first byte of out on.
+ * With every answer but WICKTHRUSH_RECORDED these are 0. */
+typedef struct {
+    uint32_t answer, bytes;
+} wickthrush_written;
+
+/* Writes the first of the lines that tell what an area knows: "O n" and a line feed, where n is the role count.
+ * wickthrush_print_row writes the others. Never changes the area; the bytes of out behind those written stay as they
+ * are, and there is no NUL.
+ *
+ * WICKTHRUSH_RECORDED      the line is written
+ * WICKTHRUSH_BAD_AREA      len is wrong or the bytes are no area; out unchanged
+ * WICKTHRUSH_SHORT_BUFFER  out_len is below WICKTHRUSH_PRINT_BYTES; out unchanged
+ */
+WICKTHRUSH_MUST_USE wickthrush_written wickthrush_print_open(const uint8_t *area, size_t len, uint8_t *out,
+                                                             size_t out_len);
+
+/* Writes the lines of one row, which has what is known of one permission p. Rows are counted from 0, by rising
+ * permission. First comes "D p set" if something is denied, then "A p set" for each open set in stored order, with a
+ * line feed behind each. Never changes the area; the bytes of out behind those written stay as they are, and there is
+ * no NUL.
+ *
+ * WICKTHRUSH_RECORDED      the lines are written
+ * WICKTHRUSH_BAD_AREA      len is wrong or the bytes are no area; out unchanged
+ * WICKTHRUSH_NO_SUCH_ROW   row is not below the number of rows used: all are printed; out unchanged
+ * WICKTHRUSH_SHORT_BUFFER  out_len is below WICKTHRUSH_PRINT_BYTES; out unchanged
+ *
+ * The O line and then the lines of row 0, 1, 2 and so on, up to WICKTHRUSH_NO_SUCH_ROW, are input for wickthrush(1).
+ * Taken by a fresh cache, as wickthrush_open for the O line, wickthrush_reply for each D and A, all are answered
+ * WICKTHRUSH_RECORDED and give an area of the same bytes, if no call has changed the area between them.
+ */
+WICKTHRUSH_MUST_USE wickthrush_written wickthrush_print_row(const uint8_t *area, size_t len, uint64_t row, uint8_t *out,
+                                                            size_t out_len);
 
 #ifdef __cplusplus
 }

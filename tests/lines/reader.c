@@ -7,12 +7,6 @@
 
 /* ---- one line */
 
-struct line {
-    char letter;     /* 0: it doesn't read */
-    uint64_t number; /* role count or permission */
-    uint64_t set;    /* a role of G and R as the set of it alone */
-};
-
 static void write_line(const struct line *line, struct bytes *out)
 {
     putf(out, "%c", line->letter);
@@ -56,7 +50,7 @@ static bool in_range(const struct line *line)
 }
 
 /* A guess that forgives much: the line reads exactly if the guess is written as the line is. */
-static struct line read_line(const uint8_t *at, size_t count)
+struct line read_line(const uint8_t *at, size_t count)
 {
     static struct bytes again;
     char text[LONGEST_LINE + 1];

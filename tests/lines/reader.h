@@ -10,6 +10,15 @@
 
 enum { LONGEST_LINE = 200 };
 
+struct line {
+    char letter;     /* 0: it doesn't read */
+    uint64_t number; /* role count or permission */
+    uint64_t set;    /* a role of G and R as the set of it alone */
+};
+
+/* Reads a line without its LF. */
+struct line read_line(const uint8_t *at, size_t count);
+
 /* Writes what must be printed. False if the stream is out of reach. */
 bool expect(const struct bytes *in, struct bytes *out);
 

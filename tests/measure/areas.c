@@ -77,6 +77,12 @@ static uint64_t open_set(unsigned k, enum kind kind)
     }
 }
 
+/* Of row i. */
+static uint64_t shifted_set(unsigned i, unsigned k, enum kind kind)
+{
+    return kind == LONG ? ~(role(MOST_OPENS - 1 - k) << shift(i)) : open_set(k, kind) << FIRST_OPEN << shift(i);
+}
+
 static uint64_t highest_role(uint64_t set)
 {
     while ((set & (set - 1)) != 0)
@@ -107,9 +113,9 @@ void fill(uint8_t *area, unsigned rows, unsigned opens, enum kind kind)
     for (unsigned i = 0; i < rows; i++) {
         put(area, contents_at(i), permission_of(i));
         put(area, contents_at(i) + 1, opens);
-        put(area, body_at(i), role(FIRST_DENIED + shift(i)));
+        put(area, body_at(i), kind == LONG ? 0 : role(FIRST_DENIED + shift(i)));
         for (unsigned k = 0; k < opens; k++)
-            put(area, body_at(i) + 1 + k, open_set(k, kind) << FIRST_OPEN << shift(i));
+            put(area, body_at(i) + 1 + k, shifted_set(i, k, kind));
     }
     assert(yardstick_good(area, AREA_BYTES));
 }

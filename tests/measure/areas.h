@@ -18,14 +18,16 @@ enum {
 /* OWN: each open set is one role that no other set of its row has.
  * PAIRS: the open sets are all pairs of few roles, so no set has a role of its own.
  * TURNED: each open set has two roles of its own; without the upper ones the sets stand in falling order.
- * CROSSED: two neighbours together have all roles of the sets before them, an even number of sets from the last on. */
-enum kind { OWN, PAIRS, TURNED, CROSSED };
+ * CROSSED: two neighbours together have all roles of the sets before them, an even number of sets from the last on.
+ * LONG: each open set has all roles but one, and nothing is denied: sets that are long in print. */
+enum kind { OWN, PAIRS, TURNED, CROSSED, LONG };
 
-/* Roles that no filled row denies and no open set has: one below, one above those of all open sets. */
+/* Roles that no filled row denies and, but for LONG, no open set has: one below, one above those of all open sets. */
 #define LOWEST_ROLE 0
 #define FREE_ROLE 47
 
-/* Role count 64, row i has the permission permission_of(i); rows at most MOST_ROWS, opens at most MOST_OPENS. */
+/* Role count 64, row i has the permission permission_of(i); rows at most MOST_ROWS, opens at most MOST_OPENS, and for
+ * LONG at least 1. */
 void fill(uint8_t *area, unsigned rows, unsigned opens, enum kind kind);
 
 /* Even numbers from 2 on: a new permission may then stand before, between or behind those with a row. */

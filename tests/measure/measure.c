@@ -1,5 +1,5 @@
 /* Repeats one call of the archive on an area of a known fill, which is put back before each call:
- *     measure CALL ROWS OPENS own|pairs|turned|crossed TIMES
+ *     measure CALL ROWS OPENS own|pairs|turned|crossed|long TIMES
  * prints the last answer. Two runs that differ by one call give the cost of that call and of putting back. */
 #include "../yardstick/yardstick.h"
 #include "areas.h"
@@ -7,6 +7,13 @@
 #include <stdio.h>
 #include <stdlib.h>
 #include <string.h>
+
+/* What the calls that print give, as the library's type has it, and the buffer that they ask for. */
+struct written {
+    uint32_t answer, bytes;
+};
+
+enum { ROOM = 4096 };
 
 /* The functions of the archive: the compiler is told the names of those that it has. */
 #ifdef CHECK
@@ -18,10 +25,20 @@ struct yardstick_decided DECIDE(const uint8_t *area, size_t len, uint32_t permis
 #ifdef REPLY
 uint32_t REPLY(uint8_t *area, size_t len, uint32_t permission, uint64_t verdict, uint64_t set);
 #endif
+#ifdef PRINT_OPEN
+struct written PRINT_OPEN(const uint8_t *area, size_t len, uint8_t *out, size_t out_len);
+#endif
+#ifdef PRINT_ROW
+struct written PRINT_ROW(const uint8_t *area, size_t len, uint64_t row, uint8_t *out, size_t out_len);
+#endif
 
 static uint8_t area[AREA_BYTES], before[AREA_BYTES];
+#if defined PRINT_OPEN || defined PRINT_ROW
+static uint8_t out[ROOM];
+#endif
 
-/* The last row's permission and sets of it; on an empty area the permission of row 0 and empty sets. */
+/* The last row, its permission and sets of it; on an empty area the permission of row 0 and empty sets. */
+static uint64_t last_row;
 static uint32_t permission;
 static uint64_t denied_set, first_open, last_open, struck;
 
@@ -110,30 +127,65 @@ static uint32_t new_row(void)
 }
 #endif
 
+#ifdef PRINT_OPEN
+static struct written print_open(void)
+{
+    return PRINT_OPEN(area, AREA_BYTES, out, sizeof out);
+}
+#endif
+
+#ifdef PRINT_ROW
+static struct written print_row(void)
+{
+    return PRINT_ROW(area, AREA_BYTES, last_row, out, sizeof out);
+}
+#endif
+
+#if defined PRINT_OPEN && defined PRINT_ROW
+/* The O line and all rows, up to the call that finds no row more; the few instructions of this loop are counted too. */
+static struct written print_whole(void)
+{
+    struct written written = print_open();
+    for (uint64_t row = 0; written.answer == 0; row++)
+        written = PRINT_ROW(area, AREA_BYTES, row, out, sizeof out);
+    return written;
+}
+#endif
+
 /* Each gives what its call gives, so that it ends in a jump to the call, and adds nothing to it. */
 static const struct call {
     const char *name;
     uint32_t (*run)(void);
     struct yardstick_decided (*decides)(void);
+    struct written (*prints)(void);
 } calls[] = {
-    {"nothing", nothing, NULL},
-    {"thousand", thousand, NULL},
+    {"nothing", nothing, NULL, NULL},
+    {"thousand", thousand, NULL, NULL},
 #if defined CHECK
-    {"check", check, NULL},
+    {"check", check, NULL, NULL},
 #elif defined DECIDE
-    {"check", NULL, check},
+    {"check", NULL, check, NULL},
 #endif
 #ifdef DECIDE
-    {"decide", NULL, decide},
+    {"decide", NULL, decide, NULL},
 #endif
 #ifdef REPLY
-    {"reply-deny", reply_deny, NULL},
-    {"reply-allow", reply_allow, NULL},
-    {"deny-strikes", deny_strikes, NULL},
-    {"allow-drops", allow_drops, NULL},
-    {"allow-first", allow_first, NULL},
-    {"allow-last", allow_last, NULL},
-    {"new-row", new_row, NULL},
+    {"reply-deny", reply_deny, NULL, NULL},
+    {"reply-allow", reply_allow, NULL, NULL},
+    {"deny-strikes", deny_strikes, NULL, NULL},
+    {"allow-drops", allow_drops, NULL, NULL},
+    {"allow-first", allow_first, NULL, NULL},
+    {"allow-last", allow_last, NULL, NULL},
+    {"new-row", new_row, NULL, NULL},
+#endif
+#ifdef PRINT_OPEN
+    {"print-open", NULL, NULL, print_open},
+#endif
+#ifdef PRINT_ROW
+    {"print-row", NULL, NULL, print_row},
+#endif
+#if defined PRINT_OPEN && defined PRINT_ROW
+    {"print-whole", NULL, NULL, print_whole},
 #endif
 };
 
@@ -154,8 +206,9 @@ static unsigned number(const char *text, unsigned most)
 
 static enum kind kind_named(const char *name)
 {
-    static const char *const names[] = {[OWN] = "own", [PAIRS] = "pairs", [TURNED] = "turned", [CROSSED] = "crossed"};
-    for (enum kind kind = OWN; kind <= CROSSED; kind++)
+    static const char *const names[] = {
+        [OWN] = "own", [PAIRS] = "pairs", [TURNED] = "turned", [CROSSED] = "crossed", [LONG] = "long"};
+    for (enum kind kind = OWN; kind <= LONG; kind++)
         if (strcmp(name, names[kind]) == 0)
             return kind;
     stop("no such kind");
@@ -164,7 +217,7 @@ static enum kind kind_named(const char *name)
 int main(int argc, char **argv)
 {
     if (argc != 6)
-        stop("usage: measure CALL ROWS OPENS own|pairs|turned|crossed TIMES");
+        stop("usage: measure CALL ROWS OPENS own|pairs|turned|crossed|long TIMES");
     const struct call *call = NULL;
     for (size_t k = 0; k < sizeof calls / sizeof calls[0]; k++)
         if (strcmp(argv[1], calls[k].name) == 0)
@@ -178,6 +231,7 @@ int main(int argc, char **argv)
 
     fill(before, rows, opens, kind);
     permission = permission_of(rows > 0 ? rows - 1 : 0);
+    last_row = rows > 0 ? rows - 1 : 0;
     if (rows > 0) {
         denied_set = word(before, body_at(rows - 1));
         first_open = word(before, body_at(rows - 1) + 1);
@@ -190,6 +244,11 @@ int main(int argc, char **argv)
         for (unsigned k = 0; k < times; k++) {
             memcpy(area, before, AREA_BYTES);
             answer = call->decides().answer;
+        }
+    else if (call->prints != NULL)
+        for (unsigned k = 0; k < times; k++) {
+            memcpy(area, before, AREA_BYTES);
+            answer = call->prints().answer;
         }
     else
         for (unsigned k = 0; k < times; k++) {

@@ -23,6 +23,9 @@ static _Alignas(16) uint8_t memory[GUARD + BYTES + GUARD];
 static uint8_t *const area = memory + GUARD;
 static uint8_t before[BYTES];
 
+/* Lent to calls that print and must write nothing. */
+static uint8_t out[SECOND_ROOM];
+
 static uint8_t guard_byte(size_t i)
 {
     return (uint8_t)(i * 7 + 1);
@@ -32,6 +35,8 @@ static void put_guards(void)
 {
     for (size_t i = 0; i < sizeof memory; i++)
         memory[i] = guard_byte(i);
+    for (size_t i = 0; i < sizeof out; i++)
+        out[i] = guard_byte(i);
 }
 
 /* Names the first byte outside the area at `at` that has changed. */
@@ -80,6 +85,9 @@ static void header_numbers(void)
         NUMBER(DENY, 10),
         NUMBER(ALLOW, 11),
         NUMBER(UNDECIDED, 12),
+        NUMBER(SHORT_BUFFER, 16),
+        NUMBER(NO_SUCH_ROW, 18),
+        NUMBER(PRINT_BYTES, SECOND_ROOM),
 #undef NUMBER
     };
     group("the header's numbers");
@@ -105,6 +113,27 @@ static uint32_t role_to_ask(const uint8_t *at, size_t len, uint32_t permission, 
 {
     wickthrush_decided got = wickthrush_decide(at, len, permission, set);
     return got.answer == 12 ? got.role : WRONG;
+}
+
+/* ---- the calls that print: tests/print has more of them */
+
+/* The answer of a call that must write nothing. */
+static uint32_t refused_print(wickthrush_written got)
+{
+    bool untouched = got.bytes == 0;
+    for (size_t i = 0; i < sizeof out; i++)
+        untouched = untouched && out[i] == guard_byte(i);
+    return untouched ? got.answer : WRONG;
+}
+
+static uint32_t open_line(const uint8_t *at, size_t len, size_t room)
+{
+    return refused_print(wickthrush_print_open(at, len, out, room));
+}
+
+static uint32_t row_lines(const uint8_t *at, size_t len, uint64_t row, size_t room)
+{
+    return refused_print(wickthrush_print_row(at, len, row, out, room));
 }
 
 /* ---- readings */
@@ -424,6 +453,12 @@ static void refused(const char *name, size_t len)
         decided(area, len, 0, UINT64_MAX),
         wickthrush_forget(area, len, 5),
         wickthrush_forget(area, len, 0),
+        open_line(area, len, SECOND_ROOM),
+        open_line(area, len, 0),
+        row_lines(area, len, 0, SECOND_ROOM),
+        row_lines(area, len, 0, SECOND_ROOM - 1),
+        row_lines(area, len, ROWS, SECOND_ROOM),
+        row_lines(area, len, UINT64_MAX, 0),
     };
     for (size_t i = 0; i < sizeof answers / sizeof answers[0]; i++)
         check(answers[i] == 1, "%s: call %zu answers %lu", name, i, (unsigned long)answers[i]);
@@ -437,15 +472,6 @@ static void accepted(const char *name)
     check(second_good(area), "%s: the second program calls it bad", name);
 }
 
-static void put_row(size_t row, uint64_t permission, uint64_t denied, size_t count, const uint64_t *open)
-{
-    second_put(area, second_permission_at(row), permission);
-    second_put(area, second_count_at(row), count);
-    second_put(area, second_denied_at(row), denied);
-    for (size_t k = 0; k < count; k++)
-        second_put(area, second_open_at(row, k), open[k]);
-}
-
 /* The good areas that are broken: without rows, with three, and with 128 rows of 15 open sets. */
 enum base { NO_ROWS, THREE_ROWS, ALL_ROWS };
 
@@ -455,9 +481,9 @@ static void make(enum base base)
     second_put(area, 0, base == ALL_ROWS ? 17 : 8);
     if (base == THREE_ROWS) {
         second_put(area, 1, 3);
-        put_row(0, 4, SET2(1, 2), 2, (uint64_t[]){BIT(3), SET2(5, 6)});
-        put_row(1, 5, BIT(7), 0, NULL);
-        put_row(2, 70000, 0, 3, (uint64_t[]){SET2(0, 1), SET2(1, 2), SET2(0, 7)});
+        second_put_row(area, 0, 4, SET2(1, 2), 2, (uint64_t[]){BIT(3), SET2(5, 6)});
+        second_put_row(area, 1, 5, BIT(7), 0, NULL);
+        second_put_row(area, 2, 70000, 0, 3, (uint64_t[]){SET2(0, 1), SET2(1, 2), SET2(0, 7)});
     }
     if (base == ALL_ROWS) {
         uint64_t open[OPENS];
@@ -465,7 +491,7 @@ static void make(enum base base)
             open[k] = BIT(k);
         second_put(area, 1, ROWS);
         for (size_t row = 0; row < ROWS; row++)
-            put_row(row, row == ROWS - 1 ? UINT32_MAX : 1 + 33 * row, BIT(15), OPENS, open);
+            second_put_row(area, row, row == ROWS - 1 ? UINT32_MAX : 1 + 33 * row, BIT(15), OPENS, open);
     }
 }
 
@@ -624,29 +650,15 @@ static void unused_bytes(void)
 
 static void lengths(void)
 {
-    static const size_t wrong[] = {0,
-                                   1,
-                                   8,
-                                   BYTES / 2,
-                                   BYTES - 8,
-                                   BYTES - 1,
-                                   BYTES + 1,
-                                   BYTES + 8,
-                                   18456,
-                                   18968,
-                                   2 * BYTES,
-                                   (size_t)1 << 31,
-                                   ((size_t)1 << 32) + BYTES,
-                                   ((size_t)1 << 63) + BYTES,
-                                   SIZE_MAX};
     group("areas of wrong length");
     make(THREE_ROWS);
     accepted("right length");
-    for (size_t i = 0; i < sizeof wrong / sizeof wrong[0]; i++) {
-        refused("wrong length", wrong[i]);
-        check(wickthrush_open(area, wrong[i], 8) == 1, "open with length %zu", wrong[i]);
-        check(wickthrush_open(area, wrong[i], 0) == 1, "open with length %zu and no roles", wrong[i]);
-        check(memcmp(area, before, BYTES) == 0, "length %zu: the area changed", wrong[i]);
+    for (size_t i = 0; i < SECOND_WRONG_LENGTHS; i++) {
+        size_t len = second_wrong_lengths[i];
+        refused("wrong length", len);
+        check(wickthrush_open(area, len, 8) == 1, "open with length %zu", len);
+        check(wickthrush_open(area, len, 0) == 1, "open with length %zu and no roles", len);
+        check(memcmp(area, before, BYTES) == 0, "length %zu: the area changed", len);
         check_guards(area, "open with a wrong length");
     }
     check(decided(NULL, 0, 5, 0) == 1, "decide on nothing");

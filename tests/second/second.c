@@ -284,6 +284,32 @@ void second_put(uint8_t *area, size_t at, uint64_t value)
         area[8 * at + i] = (uint8_t)(value >> (8 * i));
 }
 
+const size_t second_wrong_lengths[SECOND_WRONG_LENGTHS] = {
+    0,
+    1,
+    8,
+    SECOND_BYTES / 2,
+    SECOND_BYTES - 8,
+    SECOND_BYTES - 1,
+    SECOND_BYTES + 1,
+    SECOND_BYTES + 8,
+    18456,
+    18968,
+    2 * SECOND_BYTES,
+    (size_t)1 << 31,
+    ((size_t)1 << 32) + SECOND_BYTES,
+    ((size_t)1 << 63) + SECOND_BYTES,
+    SIZE_MAX};
+
+void second_put_row(uint8_t *area, size_t row, uint64_t permission, uint64_t denied, size_t count, const uint64_t *open)
+{
+    second_put(area, second_permission_at(row), permission);
+    second_put(area, second_count_at(row), count);
+    second_put(area, second_denied_at(row), denied);
+    for (size_t k = 0; k < count; k++)
+        second_put(area, second_open_at(row, k), open[k]);
+}
+
 void second_area(const struct second *second, uint8_t *area)
 {
     memset(area, 0, SECOND_BYTES);
@@ -291,11 +317,7 @@ void second_area(const struct second *second, uint8_t *area)
     second_put(area, 1, second->used);
     for (size_t i = 0; i < second->used; i++) {
         struct second_row row = second_row(second->possible[i], second->n);
-        second_put(area, second_permission_at(i), second->permission[i]);
-        second_put(area, second_count_at(i), row.count);
-        second_put(area, second_denied_at(i), row.denied);
-        for (size_t k = 0; k < row.count; k++)
-            second_put(area, second_open_at(i, k), row.open[k]);
+        second_put_row(area, i, second->permission[i], row.denied, row.count, row.open);
     }
 }
 

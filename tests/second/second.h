@@ -14,7 +14,9 @@ enum {
     SECOND_ROWS = 128,
     SECOND_OPENS = 15,
     SECOND_MINIMAL = 20, /* the most sets of 6 roles of which none is part of another */
-    SECOND_BYTES = 18448
+    SECOND_BYTES = 18448,
+    SECOND_WRONG_LENGTHS = 15,
+    SECOND_ROOM = 4096 /* the fewest bytes of a buffer to print into */
 };
 
 /* Holder sets that are possible for a permission: bit h stands for the holder set h. */
@@ -59,6 +61,9 @@ uint32_t second_lowest(uint64_t set);
 /* The bytes that the area must have. */
 void second_area(const struct second *second, uint8_t *area);
 
+/* Lengths that no area has. */
+extern const size_t second_wrong_lengths[SECOND_WRONG_LENGTHS];
+
 /* Whether an area of the right length obeys every layout rule, for any role count. */
 bool second_good(const uint8_t *area);
 
@@ -69,5 +74,8 @@ size_t second_denied_at(size_t row);
 size_t second_open_at(size_t row, size_t open);
 uint64_t second_word(const uint8_t *area, size_t at);
 void second_put(uint8_t *area, size_t at, uint64_t value);
+
+/* The words of one row: entry and body. */
+void second_put_row(uint8_t *area, size_t row, uint64_t permission, uint64_t denied, size_t count, const uint64_t *open);
 
 #endif

@@ -19,12 +19,12 @@ use Rattle.walker.specs.Walk.{walked, given, none, handed, Walkable}
 use Rattle.walker.specs.declared.Handed.{Handed}
 use Rattle.walker.proofs.WalkLaws.{walked-good, walked-few}
 use Rattle.text.specs.Write.{Wrote}
-use Rattle.text.proofs.WriteLaws.{wrote-then, wrote-length}
+use Rattle.text.proofs.WriteLaws.{wrote-then, wrote-length, wrote-nothing}
 use Rattle.answers.specs.Texts.{mostText, answerText, rowText}
 use Rattle.answers.specs.Show.{showsOn, rowAfter, rowTextAt, Shows, stops, shows, showingAt, handedNext, handedText, Writable, HandedShown, RowsShown, AnswerShown}
 use Rattle.answers.specs.declared.show.Shown.{Shown}
 use Rattle.answers.specs.declared.show.Showing.{Showing}
-use Rattle.answers.proofs.Texts.{wrote-nothing, length-row, length-answer}
+use Rattle.answers.proofs.Texts.{length-row, length-answer}
 
 pub both : (a b : Bool) → (a && b) ≡ true → (a ≡ true) × (b ≡ true)
 both true true e = (refl, refl)

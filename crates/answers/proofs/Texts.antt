@@ -1,10 +1,9 @@
--- Texts written part by part into a buffer that has room for the whole, and how long they are. Assumes nothing.
-use mathlib.Core.Path.{_≡_, refl, sym, ap}
+-- The texts of answers and rows: their parts, and how long they are. Assumes nothing.
+use mathlib.Core.Path.{_≡_, refl, ap}
 use mathlib.Core.Bool.{Bool, cond}
 use mathlib.Core.Logic.{by-cases}
 use mathlib.Core.List.{List, [], _∷_, _++_}
 use Prim.Native.Nat.{ℕ, _+_, _*_, _≤_, _<_, _^_}
-use native.Mathlib.Nat.{add-zero}
 use native.Mathlib.Numerals.{add-one}
 use native.Mathlib.Decide.{decLt}
 use native.Mathlib.Omega.{arith}
@@ -15,21 +14,10 @@ use Rattle.roles.specs.Sets.{mostRoles}
 use Rattle.text.specs.Ascii.{space}
 use Rattle.text.specs.Number.{numberText}
 use Rattle.text.specs.Set.{setText}
-use Rattle.text.specs.Write.{Wrote}
-use Rattle.text.proofs.WriteLaws.{wrote-length}
 use Rattle.text.proofs.Shape.{length-number, length-set-text}
 use Rattle.meaning.specs.Rows.{mostOpens, Decided}
 use Rattle.area.specs.State.{Entry}
 use Rattle.answers.specs.Texts.{mostText, roleText, answerText, setsOf, setsText, rowText}
-
-pub wrote-nothing : (d : List ℕ) (at : ℕ) → Wrote d at [] d at
-wrote-nothing d at = record { bytes = refl; next = sym (add-zero at) }
-
-pub room-first : (at : ℕ) (t u : List ℕ) {n : ℕ} → at + length (t ++ u) ≤ n → at + length t ≤ n
-room-first at t u h = omega (arith, length-append t u)
-
-pub wrote-room : {d : List ℕ} {at : ℕ} {t e : List ℕ} {p : ℕ} → Wrote d at t e p → (u : List ℕ) → at + length (t ++ u) ≤ length d → p + length u ≤ length e
-wrote-room {t = t} w u h = omega (arith, length-append t u, wrote-length w, w .next)
 
 -- ---- sets, one after the other
 

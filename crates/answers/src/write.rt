@@ -3,15 +3,13 @@ use roles::MOST_ROLES;
 use roles::RoleSet;
 use rows::Row;
 use text::write_number;
-use text::write_set;
-ghost use mathlib.Core.List.{[], _∷_, _++_};
+use text::write_number_field;
+use text::write_set_field;
 ghost use Prim.Native.Nat.{_+_, _≤_};
 ghost use lib.ListN.{length};
 ghost use Rattle.meaning.specs.Rows.{mostOpens, bare};
 ghost use Rattle.rows.specs.Stored.{Tidy, rowOf};
 ghost use Rattle.area.specs.State.{entry};
-ghost use Rattle.text.specs.Ascii.{space};
-ghost use Rattle.text.specs.Set.{setText};
 ghost use Rattle.text.specs.Write.{Wrote};
 ghost use Rattle.answers.specs.Texts.{withRole, roleText, answerText, setsText, rowText};
 
@@ -21,8 +19,7 @@ fn write_role(out: &mut [u8], at: usize, role: u64) -> usize
     ensures { λ next. ⌜ Wrote (now (out .entry)) at (roleText role) (now (out .exit)) next ⌝ }
 {
     if role < MOST_ROLES {
-        out[at] = b' ';
-        return write_number(out, at + 1, role);
+        return write_number_field(out, at, role);
     }
     at
 }
@@ -48,15 +45,6 @@ pub fn write_answer(out: &mut [u8], at: usize, number: u64, answer: u32) -> usiz
     write_decided(out, at, number, answer, MOST_ROLES)
 }
 
-// A set with a space before it.
-fn write_field(out: &mut [u8], at: usize, s: RoleSet) -> usize
-    requires { ⌜ at + length ((space ∷ []) ++ setText (s .bits)) ≤ length (now out) ⌝ }
-    ensures { λ next. ⌜ Wrote (now (out .entry)) at ((space ∷ []) ++ setText (s .bits)) (now (out .exit)) next ⌝ }
-{
-    out[at] = b' ';
-    write_set(out, at + 1, s)
-}
-
 fn write_sets(out: &mut [u8], at: usize, sets: &[u64]) -> usize
     requires { ⌜ at + length (setsText (now sets)) ≤ length (now out) ⌝ }
     ensures { λ next. ⌜ Wrote (now (out .entry)) at (setsText (now (sets .entry))) (now (out .exit)) next ⌝ }
@@ -66,7 +54,7 @@ fn write_sets(out: &mut [u8], at: usize, sets: &[u64]) -> usize
     while i < sets.len() {
         let s = RoleSet { bits: sets[i] };
         i += 1;
-        place = write_field(out, place, s);
+        place = write_set_field(out, place, s);
     }
     place
 }
@@ -83,7 +71,7 @@ pub fn write_row(out: &mut [u8], at: usize, p: u32, w: Row) -> usize
     out[at] = b'=';
     out[at + 1] = b' ';
     let a = write_number(out, at + 2, p as u64);
-    let b = write_field(out, a, d);
+    let b = write_set_field(out, a, d);
     let e = write_sets(out, b, &sets[..n]);
     out[e] = b'\n';
     e + 1

@@ -60,6 +60,11 @@ module _ (n : ℕ) (l : List ℕ) (h : length l ≤ n) where
 
 -- ---- cells
 
+pub each-append : (f : Entry → List ℕ) (a b : List Entry) → each f (a ++ b) ≡ each f a ++ each f b
+unfolding each
+each-append f [] b = refl
+each-append f (e ∷ a) b = ap (λ (l : List ℕ). f e ++ l) (each-append f a b) ∙ sym (append-assoc (f e) (each f a) (each f b))
+
 module _ (f : Entry → List ℕ) (w : ℕ) (wide : (e : Entry) → length (f e) ≡ w) where
   pub length-each : (es : List Entry) → length (each f es) ≡ length es * w
   unfolding each

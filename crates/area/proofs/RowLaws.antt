@@ -1,5 +1,5 @@
 -- The laws of rows by permission: what is found, what is put, at which place, and that what is found fixes the rows. Assumes nothing.
-use mathlib.Core.Path.{_≡_, refl, sym, ap, ap₂, _∙_, subst⁻¹}
+use mathlib.Core.Path.{_≡_, refl, sym, ap, ap₂, _∙_, subst, subst⁻¹}
 use mathlib.Core.Bool.{Bool, true, false, cond}
 use mathlib.Core.List.{List, [], _∷_, _++_, append-nil}
 use mathlib.Core.Logic.{_↔_, _≢_, _⊎_, inl, inr, ⊎-elim}
@@ -340,3 +340,43 @@ rows-ext n m last (e ∷ es) (f ∷ fs) g k h = by-order (e .permission) (f .per
     (λ p v x. sym (missed p e es (λ q. omega arith)) ∙ h p (omega arith) x ∙ missed p f fs (λ q. omega arith)) in
     ap₂ (λ (x : Entry) (l : List Entry). x ∷ l) (ap₂ {C = Entry} (λ (q : ℕ) (v : Row). entry q v) u w) rest)
     (λ u. absurd (not-behind m n f fs (e ∷ es) (k .2) (u, g .1, g .2, g .3) (sym (h (f .permission) (k .0) (k .1)))))
+
+-- ---- a row put again, and rows put one behind the other
+
+-- of two rows put for one permission the later one stands
+pub put-again : (n last p : ℕ) (v w : Row) (es : List Entry) → GoodRows n last es → last < p → p ≤ lastPermission → (isBlank v ≡ false → GoodRow n v) → (isBlank w ≡ false → GoodRow n w)
+    → put p w (put p v es) ≡ put p w es
+put-again n last p v w es g a b gv gw =
+    let first : GoodRows n last (put p v es) = put-good n last p v es g a b gv in
+    rows-ext n n last (put p w (put p v es)) (put p w es) (put-good n last p w (put p v es) first a b gw) (put-good n last p w es g a b gw)
+    (λ q x y. elim (ℕ-discrete p q) [
+      | yes d ↦ subst (λ (r : ℕ). rowFor r (put p w (put p v es)) ≡ rowFor r (put p w es)) d
+          (rowFor-put-same n last p w (put p v es) first ∙ sym (rowFor-put-same n last p w es g))
+      | no d ↦ rowFor-put-other p q w (put p v es) d ∙ rowFor-put-other p q v es d ∙ sym (rowFor-put-other p q w es d)
+    ])
+
+pub rows-first : (n last : ℕ) (es fs : List Entry) → GoodRows n last (es ++ fs) → GoodRows n last es
+rows-first n last [] fs g = tt
+rows-first n last (e ∷ es) fs g = (g .0, g .1, g .2, rows-first n (e .permission) es fs (g .3))
+
+-- the row e behind the rows es
+module _ (n : ℕ) (e : Entry) (fs : List Entry) where
+  pub next-good : (last : ℕ) (es : List Entry) → GoodRows n last (es ++ e ∷ fs) → GoodEntry n last e
+  next-good last [] g = record { above = g .0; valid = g .1; good-row = g .2 }
+  next-good last (f ∷ es) g =
+      let r = next-good (f .permission) es (g .3) in
+      let b = g .0 in
+      record { above = omega (arith, r .above); valid = r .valid; good-row = r .good-row }
+
+  pub next-absent : (last : ℕ) (es : List Entry) → GoodRows n last (es ++ e ∷ fs) → rowFor (e .permission) es ≡ blank
+  unfolding rowFor
+  next-absent last [] g = refl
+  next-absent last (f ∷ es) g =
+      let above = next-good (f .permission) es (g .3) .above in
+      missed (e .permission) f es (λ q. omega arith) ∙ next-absent (f .permission) es (g .3)
+
+  pub put-next : (last : ℕ) (es : List Entry) → GoodRows n last (es ++ e ∷ fs) → put (e .permission) (e .row) es ≡ es ++ e ∷ []
+  put-next last [] g = put-empty (e .permission) (e .row) ∙ append-nil (one (e .permission) (e .row)) ∙ one-says (e .permission) (e .row) (goodRow-says n (e .row) (g .2))
+  put-next last (f ∷ es) g =
+      put-behind (e .permission) (e .row) f es (next-good (f .permission) es (g .3) .above)
+      ∙ ap (λ (l : List Entry). f ∷ l) (put-next (f .permission) es (g .3))

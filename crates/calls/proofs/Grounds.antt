@@ -9,7 +9,7 @@ use borrow.Author.Tests.{eq-eqb, ne-eqb}
 use lib.Dec.{T, T-not, not-T, eqb, leb, eqb→eq, leb→le, le→leb}
 use lib.ListN.{length}
 use Rattle.roles.specs.Sets.{single, allBelow, partOf, mostRoles}
-use Rattle.roles.proofs.Tests.{T?, T-and, T-true, T-false}
+use Rattle.roles.proofs.Tests.{T?, T-and, T-true, T-false, not-test}
 use Rattle.roles.proofs.Laws.{partOf-allBelow, single-below, below-single}
 use Rattle.refusals.specs.Refusals.{Refusal, refusal, refuse, Ground, ground, Exactly}
 use Rattle.refusals.proofs.Laws.{lacks, distinct, Tests, refuse-has, refuse-exactly}
@@ -27,9 +27,6 @@ use Rattle.calls.specs.Demands.{OnGrounds, IsRecorded, areaGrounds, NoPl
 use Rattle.calls.proofs.CallLaws.{valid-law, fitsIn-law, fitsIn-over, fitsIn-blank, fitsIn-room, reply-is, update-is}
 
 -- ---- what the tests say
-
-not-test : (b : Bool) (A : Type 0) → T b ↔ A → T (not b) ↔ ¬ A
-not-test b A i = ((λ t x. T-not b t (i .1 x)), λ h. not-T b (λ t. h (i .0 t)))
 
 over : (a b : ℕ) (t : Bool) → T t ↔ (a < b) → T (not t) ↔ (b ≤ a)
 over a b t i = ((λ u. let h : ¬ (a < b) = not-test t (a < b) i .0 u in omega (arith, h)), λ h. not-T t (λ u. let k : a < b = i .0 u in omega arith))

@@ -1,7 +1,7 @@
 -- The laws of the calls' definitions and of histories, and the demands, gathered in `Demands`.
 pub mod CallLaws
 pub mod Outcomes
-mod Invariant
+pub mod Invariant
 mod Grounds
 mod Streams
 mod Decisions

@@ -1,4 +1,2 @@
--- What the proofs of a turn and of the loop cite.
-mod Idle
-mod Came
-mod Going
+-- What the proof of `answer_lines` cites.
+mod Zeros

@@ -1,3 +1,2 @@
--- What the contracts of `gateway` cite.
-pub mod Turns
-pub mod Moves
+-- What the contract of `gateway` cites.
+pub mod Answered

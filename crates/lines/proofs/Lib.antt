@@ -4,4 +4,5 @@ mod Places
 mod Steps
 pub mod Turns
 pub mod Program
+pub mod Left
 pub mod Runs

@@ -9,7 +9,7 @@ use lib.Dec.{ltb}
 use lib.ListN.{length, take, drop, length-drop, length-append, drop-of-length-le}
 use lib.Seq.{drop-drop, take-all}
 use Rattle.area.specs.Layout.{mostRows}
-use Rattle.answers.proofs.Texts.{wrote-nothing}
+use Rattle.text.proofs.WriteLaws.{wrote-nothing}
 use Rattle.requests.specs.declared.Request.{Request}
 use Rattle.split.specs.Split as split
 use Rattle.split.specs.Split.{heldAll, said, beforeLf, heldIn}

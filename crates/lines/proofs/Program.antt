@@ -1,4 +1,4 @@
--- What the program writes is a function of the bytes of its input alone. Assumes nothing.
+-- What the program writes is a function of its area and of the bytes of its input alone. Assumes nothing.
 use mathlib.Core.Path.{_≡_, refl, sym, ap, _∙_}
 use mathlib.Core.Bool.{true, false, not}
 use mathlib.Core.List.{List, [], _∷_, _++_}
@@ -10,7 +10,7 @@ use lib.ListN.{length}
 use Rattle.area.specs.Layout.{mostRows}
 use Rattle.text.specs.Ascii.{lf}
 use Rattle.split.specs.Split.{Held, none, isNone, linesFrom, whole}
-use Rattle.lines.specs.Written.{written, programWrites}
+use Rattle.lines.specs.Written.{written, linesWrite}
 use Rattle.lines.specs.Run.{Place, showing}
 use Rattle.lines.specs.Program.{start, idle, fedWith, Runs, writes, reads, closes, ends, ProgramWrites}
 use Rattle.split.proofs.SplitLaws.{none-only, lines-closed}
@@ -47,7 +47,7 @@ no-lines : (k : ℕ) (l : List ℕ) → written k l (linesFrom none []) ≡ []
 unfolding written linesFrom isNone
 no-lines k l = refl
 
-runs-still : {m : Place} {ps : List (List ℕ)} {t : List ℕ} → Runs m ps t → stillTo m (whole ps) ≡ t
+runs-still : {m : Place} {ps : List (List ℕ)} {t l : List ℕ} → Runs m ps t l → stillTo m (whole ps) ≡ t
 unfolding whole
 runs-still {ps = ps} (writes {t = t} room a r) = advances-still a (whole ps) ∙ ap (λ (x : List ℕ). t ++ x) (runs-still r)
 runs-still {m = m} (reads {ps = ps} p e r) = sym (fed-still m p (whole ps) e) ∙ runs-still r
@@ -55,5 +55,5 @@ runs-still {m = m} (closes e n r) = sym (closed-still m e n) ∙ runs-still r
 runs-still {m = m} (ends e n) = idle-still m [] e ∙ ap (λ (h : Held). written (m .number) (m .area) (linesFrom h [])) (none-only (m .held) n) ∙ no-lines (m .number) (m .area)
 
 pub program-writes : ProgramWrites
-unfolding programWrites
-program-writes ps t r = sym (runs-still r) ∙ idle-still start (whole ps) refl
+unfolding linesWrite
+program-writes l ps t l′ r = sym (runs-still r) ∙ idle-still (start l) (whole ps) refl

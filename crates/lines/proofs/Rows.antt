@@ -11,7 +11,7 @@ use Rattle.area.specs.Layout.{mostRows}
 use Rattle.walker.specs.Walk.{goOnAt}
 use Rattle.answers.specs.Texts.{mostText}
 use Rattle.answers.proofs.ShowLaws.{both, no-more-rows}
-use Rattle.answers.proofs.Texts.{wrote-nothing}
+use Rattle.text.proofs.WriteLaws.{wrote-nothing}
 use Rattle.answers.specs.Show as shown
 use Rattle.answers.specs.Show.{showsOn, rowAfter, rowTextAt, Shows, RowsShown}
 use Rattle.answers.specs.declared.show.Shown.{Shown}

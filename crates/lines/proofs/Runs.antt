@@ -10,7 +10,7 @@ use lib.ListN.{length, length-drop}
 use lib.Seq.{sets}
 use Rattle.text.specs.Ascii.{lf}
 use Rattle.split.specs.Split.{Held, none, isNone, heldAll, beforeLf, whole}
-use Rattle.lines.specs.Written.{programWrites}
+use Rattle.lines.specs.Written.{linesWrite}
 use Rattle.answers.specs.Texts.{mostText}
 use Rattle.lines.specs.Run.{Place, showing, rowShown, lineRead, turned, turnText, goesOn, Advances, stops, turns}
 use Rattle.lines.specs.Program.{start, idle, fedWith, Runs, writes, reads, closes, ends, InRoom, Partly, so-far, within, wrote, read, closed, Prefix, ProgramRuns, AdvancedOne}
@@ -47,8 +47,8 @@ partly-still {m} (read {ps = ps} p e r) = let s = partly-still r in (s .0, s .1 
 partly-still {m} (closed e n r) = let s = partly-still r in (s .0, s .1 ∙ closed-still m e n)
 
 pub prefix : Prefix
-unfolding programWrites
-prefix ps t r = let s = partly-still r in (s .0, s .1 ∙ idle-still start (whole ps) refl)
+unfolding linesWrite
+prefix l ps t r = let s = partly-still r in (s .0, s .1 ∙ idle-still (start l) (whole ps) refl)
 
 -- ---- turns stop somewhere
 
@@ -103,7 +103,7 @@ turn-closing m c = go (showing m)
 
 -- a run from m on, fed with the pieces ps, with buffers of that room
 abbrev RunsIn : ℕ → Place → List (List ℕ) → Type 0
-RunsIn room m ps = (t : List ℕ) × (r : Runs m ps t) × InRoom room r
+RunsIn room m ps = (t l : List ℕ) × (r : Runs m ps t l) × InRoom room r
 
 module _ (room : ℕ) (enough : mostText ≤ room) where
   busy-goes : (m : Place) → idle m ≡ false → goesOn room m ≡ true
@@ -126,24 +126,24 @@ module _ (room : ℕ) (enough : mostText ≤ room) where
           let a = advances-some (suc (effort m)) room m (omega arith) in
           let less = advances-less (busy-goes m e) (a .2) in
           let r = next (a .0) (omega arith) (advances-keep P keeps (a .2) p) in
-          (a .1 ++ r .0, writes room (a .2) (r .1), (refl, r .2))
+          (a .1 ++ r .0, r .1, writes room (a .2) (r .2), (refl, r .3))
 
   closing-runs : (m : Place) → Closing (m .held) (m .input) → RunsIn room m []
   closing-runs m = run-on (λ (k : Place). Closing (k .held) (k .input)) turn-closing [] last (suc (effort m)) m (omega arith)
     where
       last : (k : Place) → idle k ≡ true → Closing (k .held) (k .input) → RunsIn room k []
-      last k e c = ([], ends e (closing-none c (idle-read k e)), tt)
+      last k e c = ([], k .area, ends e (closing-none c (idle-read k e)), tt)
 
   idle-runs : (ps : List (List ℕ)) (m : Place) → idle m ≡ true → RunsIn room m ps
   idle-runs [] m e = go (isNone (m .held)) refl
     where
       go : (h : Bool) → isNone (m .held) ≡ h → RunsIn room m []
-      go true n = ([], ends e n, tt)
-      go false n = let r = closing-runs (fedWith m (lf ∷ [])) unread in (r .0, closes e n (r .1), r .2)
+      go true n = ([], m .area, ends e n, tt)
+      go false n = let r = closing-runs (fedWith m (lf ∷ [])) unread in (r .0, r .1, closes e n (r .2), r .3)
   idle-runs (p ∷ ps) m e =
       let k = fedWith m p in
       let r = run-on (λ (q : Place). Unit {0}) (λ q u. u) ps (λ q i u. idle-runs ps q i) (suc (effort k)) k (omega arith) tt in
-      (r .0, reads p e (r .1), r .2)
+      (r .0, r .1, reads p e (r .2), r .3)
 
 pub program-runs : ProgramRuns
-program-runs room enough ps = idle-runs room enough ps start refl
+program-runs l room enough ps = idle-runs room enough ps (start l) refl

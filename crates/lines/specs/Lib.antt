@@ -1,4 +1,4 @@
--- What the contracts of `lines` cite, and what the line program writes for an input.
+-- What the contracts of `lines` cite, what is written for an input, and the area that it leaves.
 pub mod Written
 pub mod Run
 pub mod Program

@@ -1,10 +1,13 @@
--- What the line program writes: for each line its number and the answer, and after an S line the rows.
+-- What is written for lines, each with its number and the answer, and after an S line the rows; and the area that they leave.
 --     shown l q           the rows that follow the answer to q
 --     rowsText            rows, one after the other
 --     nextNumber k        the number of the next line; numbers have 64 bits
 --     lineWritten k l q   what is written for line k, where it says q
 --     written k l hs      what is written for the lines hs from number k on, on the area l
---     programWrites bs    what is written for the input bs; the area starts as zeros
+--     areaAfter l hs      the area after the lines hs, on the area l
+--     linesWrite l bs     what is written for the input bs, on the area l
+--     linesLeave l bs     the area after the input bs, on the area l
+--     programWrites bs    what the line program writes for the input bs: its area starts as zeros
 use mathlib.Core.List.{List, [], _∷_, _++_}
 use Prim.Native.Nat.{ℕ, _+_, _%_, _^_}
 use lib.ListN.{replicate}
@@ -31,7 +34,7 @@ unfoldable pub rowsText : List Entry → List ℕ
 rowsText [] = []
 rowsText (e ∷ es) = rowText e ++ rowsText es
 
--- ---- all that is written
+-- ---- all that is written, and the area behind it
 
 abbrev pub nextNumber : ℕ → ℕ
 nextNumber k = (k + 1) % 2 ^ 64
@@ -43,5 +46,15 @@ unfoldable pub written : ℕ → List ℕ → List Held → List ℕ
 written k l [] = []
 written k l (h ∷ hs) = lineWritten k l (said h) ++ written (nextNumber k) (answerOf l (said h) .area) hs
 
+unfoldable pub areaAfter : List ℕ → List Held → List ℕ
+areaAfter l [] = l
+areaAfter l (h ∷ hs) = areaAfter (answerOf l (said h) .area) hs
+
+unfoldable pub linesWrite : List ℕ → List ℕ → List ℕ
+linesWrite l bs = written 1 l (linesOf bs)
+
+unfoldable pub linesLeave : List ℕ → List ℕ → List ℕ
+linesLeave l bs = areaAfter l (linesOf bs)
+
 unfoldable pub programWrites : List ℕ → List ℕ
-programWrites bs = written 1 (replicate areaBytes 0) (linesOf bs)
+programWrites bs = linesWrite (replicate areaBytes 0) bs

@@ -8,14 +8,11 @@ use split::asked;
 use split::line_end;
 ghost use mathlib.Core.Path.{_≡_};
 ghost use mathlib.Core.Bool.{_&&_};
-ghost use mathlib.Core.List.{[]};
 ghost use Prim.Native.Nat.{_-_, _≤_};
 ghost use lib.Dec.{leb, ltb};
-ghost use lib.ListN.{replicate};
-ghost use Rattle.area.specs.Layout.{areaBytes};
 ghost use Rattle.answers.specs.Texts.{mostText};
-ghost use Rattle.lines.specs.Run.{placeOf, Ready, Comes, RestShown, Advanced};
-ghost use Rattle.lines.specs.Program.{start};
+ghost use Rattle.lines.specs.Run.{Ready, Comes, RestShown, Advanced};
+ghost use Rattle.lines.specs.Program.{Starts};
 
 // The line so far, its number, and the next row to be shown; MOST_ROWS and more stand for none.
 pub struct Run {
@@ -31,9 +28,9 @@ pub struct Progress {
     pub written: usize,
 }
 
-// Before the first byte.
+// Before the first byte, on whatever area.
 pub fn start() -> Run
-    ensures { λ r. ⌜ placeOf r (replicate areaBytes 0) [] ≡ start ⌝ }
+    ensures { λ r. ⌜ Starts r ⌝ }
 {
     Run {
         line: Splitter::new(),

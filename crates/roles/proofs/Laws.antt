@@ -2,13 +2,12 @@
 use mathlib.Core.Path.{_≡_, refl, subst, subst⁻¹}
 use mathlib.Core.Logic.{_↔_, _≢_, _⊎_, inl, inr, ⊎-elim}
 use Prim.Native.Nat.{ℕ, _^_, _≤_, _<_}
-use mathlib.Core.Bool.{false}
 use native.Mathlib.Nat.{mod-eq-of-lt, lt-of-lt-of-le}
 use native.Mathlib.Omega.{arith}
 use lib.Bits.{and-le-r}
 use lib.Dec.{T, ltb, leb, leb→le, le→leb, ltb→lt, lt→ltb}
 use lib.Pow.{pow-lt, pow-mono, ones-lt}
-use Rattle.roles.specs.Sets.{mostRoles, has, In, single, allBelow, below64, joined, common, without, shares, partOf}
+use Rattle.roles.specs.Sets.{mostRoles, In, single, allBelow, below64, joined, common, without, shares, partOf}
 use Rattle.roles.proofs.Tests.{T-ext}
 use Rattle.roles.proofs.Member.{in-empty, in-single, in-allBelow, in-joined, in-common, in-without, set-ext, shares-law, partOf-law, below-law, in-below64}
 
@@ -16,10 +15,6 @@ use Rattle.roles.proofs.Member.{in-empty, in-single, in-allBelow, in-jo
 
 pub in⇒nonempty : (s r : ℕ) → In s r → s ≢ 0
 in⇒nonempty s r i e = in-empty r (subst (λ (x : ℕ). In x r) e i)
-
--- a set below n has no role from n on
-pub has-above : (n s r : ℕ) → s < 2 ^ n → n ≤ r → has s r ≡ false
-has-above n s r h k = T-ext (has s r) false ((λ i. let b = below-law n s .0 h r i in omega arith), (λ f. absurd f))
 
 -- ---- single, all below, below 64
 

@@ -6,7 +6,7 @@ use Prim.Native.Nat.{ℕ}
 use native.Mathlib.Decide.{decLt}
 use native.Mathlib.Omega.{arith}
 use borrow.Author.Tests.{le-leb, lt-leb, lt-ltb, le-ltb}
-use lib.Dec.{T, T-not, eqb, eqb-refl, ltb, leb}
+use lib.Dec.{T, T-not, not-T, eqb, eqb-refl, ltb, leb}
 
 -- a test passes or fails
 pub T? : (b : Bool) → T b ⊎ T (not b)
@@ -32,6 +32,10 @@ T-true b h = T-ext b true ((λ t. tt), (λ t. h))
 
 pub T-false : (b : Bool) → T (not b) → b ≡ false
 T-false b h = T-ext b false (T-not b h, (λ t. absurd t))
+
+-- a test fails exactly where what it says does not hold
+pub not-test : (b : Bool) (A : Type 0) → T b ↔ A → T (not b) ↔ ¬ A
+not-test b A i = ((λ t x. T-not b t (i .1 x)), λ h. not-T b (λ t. h (i .0 t)))
 
 -- two numbers that a test tells apart are not equal
 pub unlike : {a b : ℕ} {A : Type 0} → T (not (eqb a b)) → a ≡ b → A

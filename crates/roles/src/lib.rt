@@ -1,6 +1,6 @@
 // Roles are numbers from 0 on. A set of them is a 64-bit number in which role r is the bit of weight 2^r.
 ghost use mathlib.Core.Path.{_≡_};
-ghost use Rattle.roles.specs.Sets.{has, joined, without, shares, allBelow, single, below64, outside};
+ghost use Rattle.roles.specs.Sets.{joined, without, shares, allBelow, single, below64, outside};
 
 // So many roles there may be, and the last of them.
 pub const MOST_ROLES: u64 = 64;
@@ -35,16 +35,6 @@ impl RoleSet {
             return RoleSet::EMPTY;
         }
         RoleSet { bits: 1 << r }
-    }
-
-    // Whether the role r is in the set.
-    pub fn has(self, r: u64) -> bool
-        ensures { λ b. ⌜ b ≡ has (self .bits) r ⌝ }
-    {
-        if MOST_ROLES <= r {
-            return false;
-        }
-        (self.bits >> r) % 2 == 1
     }
 
     // Whether some role is in both.

@@ -11,7 +11,7 @@ use borrow.Author.Tests.{ne-eqb, lt-ltb, le-ltb, le-leb, lt-leb}
 use lib.Dec.{eqb, eqb·suc-zero}
 use lib.ListN.{length, take, drop, getD, set, length-append, drop-of-length-le}
 use lib.Seq.{take-suc, take-suc-set}
-use Rattle.text.specs.Ascii.{lf}
+use Rattle.text.specs.Ascii.{lf, Lacks}
 use Rattle.meaning.proofs.Walks.{drop-next}
 use Rattle.requests.specs.Request.{mostBytes}
 use Rattle.split.specs.Split.{Held, short, long, none, isNone, heldThen, heldAll, linesFrom, ended, left, linesCut, whole, beforeLf, heldIn}
@@ -110,6 +110,12 @@ lines-ended h (b ∷ bs) more k = go (eqb b lf) (λ k′. lines-ended (heldThen 
         ≡ heldAll h (take (cond t 0 (suc (beforeLf bs))) (b ∷ bs)) ∷ linesFrom none (drop (suc (cond t 0 (suc (beforeLf bs)))) (b ∷ bs) ++ more)
     go true f k′ = refl
     go false f k′ = f (omega arith)
+
+-- a line without LF, then its LF
+pub lines-whole : (h : Held) (t more : List ℕ) → Lacks lf t → linesFrom h (t ++ lf ∷ more) ≡ heldAll h t ∷ linesFrom none more
+unfolding linesFrom heldAll
+lines-whole h [] more k = refl
+lines-whole h (b ∷ t) more k = rw (ne-eqb b lf (k .0)) (lines-whole (heldThen h b) t more (k .1))
 
 -- a line that does not end in the bytes
 pub lines-open : (h : Held) (bs more : List ℕ) → length bs ≤ beforeLf bs → linesFrom h (bs ++ more) ≡ linesFrom (heldAll h bs) more

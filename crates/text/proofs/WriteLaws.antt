@@ -2,14 +2,19 @@
 use mathlib.Core.Path.{_≡_, refl, sym, ap, _∙_}
 use mathlib.Core.Bool.{Bool, true, false, cond}
 use mathlib.Core.List.{List, [], _∷_, _++_}
-use Prim.Native.Nat.{ℕ, suc, _+_, _-_, _/_, _%_, _≤_, _<_}
+use mathlib.Core.Logic.{_↔_, by-cases}
+use Prim.Native.Nat.{ℕ, zero, suc, _+_, _-_, _/_, _%_, _^_, _≤_, _<_}
 use native.Mathlib.Nat.{add-zero, add-suc, suc-add}
 use native.Mathlib.Numerals.{add-one}
+use native.Mathlib.Decide.{decLt}
 use native.Mathlib.Omega.{arith}
 use borrow.Author.Tests.{eq-eqb, ne-eqb}
+use lib.Dec.{not-T}
 use lib.ListN.{length, set, length-append}
 use lib.Seq.{sets, length-sets}
-use Rattle.roles.specs.Sets.{has, mostRoles}
+use Rattle.roles.specs.Sets.{has, In, mostRoles, outside}
+use Rattle.roles.proofs.Tests.{T-true, T-false}
+use Rattle.roles.proofs.Naming.{outside-le, outside-names}
 use Rattle.text.specs.Ascii.{digitZero, comma, minus}
 use Rattle.text.specs.Number.{numberText}
 use Rattle.text.specs.Set.{rolesFrom, rolesOf, roleText, rolesText, setText}
@@ -36,6 +41,17 @@ module _ {d : List ℕ} {at : ℕ} {t e : List ℕ} {p : ℕ} where
     bytes = v .bytes ∙ rw (w .bytes, w .next) (sets-append t u d at);
     next = v .next ∙ rw (w .next, length-append t u) (omega arith);
   }
+
+-- ---- what is written after each part, and the room that is left for the next
+
+pub wrote-nothing : (d : List ℕ) (at : ℕ) → Wrote d at [] d at
+wrote-nothing d at = record { bytes = refl; next = sym (add-zero at) }
+
+pub room-first : (at : ℕ) (t u : List ℕ) {n : ℕ} → at + length (t ++ u) ≤ n → at + length t ≤ n
+room-first at t u h = omega (arith, length-append t u)
+
+pub wrote-room : {d : List ℕ} {at : ℕ} {t e : List ℕ} {p : ℕ} → Wrote d at t e p → (u : List ℕ) → at + length (t ++ u) ≤ length d → p + length u ≤ length e
+wrote-room {t = t} w u h = omega (arith, length-append t u, wrote-length w, w .next)
 
 -- ---- a text written part by part
 
@@ -115,3 +131,32 @@ rest-lacks later r s h e = rw (roles-at r s h, e) refl
 pub rest-end : (later : Bool) (r s : ℕ) → mostRoles ≤ r → restText later r s ≡ []
 unfolding rolesFrom rolesText
 rest-end later r s h = let e : mostRoles - r ≡ 0 = omega arith in rw e refl
+
+-- from one role of s to the next: t has the roles below r, and no other
+module _ (later : Bool) (r s t : ℕ) (fits : s < 2 ^ mostRoles) (low : r ≤ mostRoles) (below : (q : ℕ) → q < mostRoles → In t q ↔ (q < r)) where
+  pub next-above : r ≤ outside s t
+  next-above = by-cases (decLt (outside s t) r)
+      (λ h. absurd (outside-names s t fits .named (λ e. omega arith) .1 (below (outside s t) (omega arith) .1 h)))
+      (λ h. omega arith)
+
+  none-between : (q : ℕ) → r ≤ q → q < outside s t → has s q ≡ false
+  none-between q h k =
+      T-false (has s q) (not-T (has s q) (λ i.
+      let m = outside-le s t in
+      let b : q < r = below q (omega arith) .0 (outside-names s t fits .first q k i) in omega arith))
+
+  rest-up : (k : ℕ) → r + k ≤ outside s t → restText later r s ≡ restText later (r + k) s
+  rest-up zero h = ap (λ (i : ℕ). restText later i s) (sym (add-zero r))
+  rest-up (suc k) h =
+      let m = outside-le s t in
+      let e : r + k + 1 ≡ r + suc k = omega arith in
+      rest-up k (omega arith) ∙ rest-lacks later (r + k) s (omega arith) (none-between (r + k) (omega arith) (omega arith)) ∙ ap (λ (i : ℕ). restText later i s) e
+
+  pub rest-next : restText later r s ≡ restText later (outside s t) s
+  rest-next =
+      let h = next-above in
+      let e : r + (outside s t - r) ≡ outside s t = omega arith in
+      rest-up (outside s t - r) (omega arith) ∙ ap (λ (i : ℕ). restText later i s) e
+
+pub next-in : (s t : ℕ) → s < 2 ^ mostRoles → outside s t < mostRoles → has s (outside s t) ≡ true
+next-in s t fits h = T-true (has s (outside s t)) (outside-names s t fits .named (λ e. omega arith) .0)

@@ -2,9 +2,11 @@
 use roles::LAST_ROLE;
 use roles::RoleSet;
 ghost use mathlib.Core.Path.{_≡_};
+ghost use mathlib.Core.List.{_∷_};
 ghost use Prim.Native.Nat.{_+_, _^_, _≤_, _<_};
 ghost use lib.ListN.{length, drop};
 ghost use Rattle.roles.specs.Sets.{mostRoles};
+ghost use Rattle.text.specs.Ascii.{space};
 ghost use Rattle.text.specs.Number.{numberText, digitNext, nextIs, readMore, readNumber};
 ghost use Rattle.text.specs.Set.{roleText, setText, readRoles, readSet};
 ghost use Rattle.text.specs.Field.{numberField, setField};
@@ -169,14 +171,29 @@ pub fn write_set(out: &mut [u8], at: usize, s: RoleSet) -> usize
     }
     let mut place = at;
     let mut later = false;
-    let mut r: u64 = 0;
+    let mut r = s.outside(RoleSet::EMPTY);
     while r <= LAST_ROLE {
-        let here = r;
-        r += 1;
-        if s.has(here) {
-            place = write_role(out, place, here, later);
-            later = true;
-        }
+        place = write_role(out, place, r, later);
+        later = true;
+        r = s.outside(RoleSet::all_below(r + 1));
     }
     place
+}
+
+// A number's field: the text of v with a space before it.
+pub fn write_number_field(out: &mut [u8], at: usize, v: u64) -> usize
+    requires { ⌜ at + length (space ∷ numberText v) ≤ length (now out) ⌝ }
+    ensures { λ next. ⌜ Wrote (now (out .entry)) at (space ∷ numberText v) (now (out .exit)) next ⌝ }
+{
+    out[at] = b' ';
+    write_number(out, at + 1, v)
+}
+
+// A set's field: the text of s with a space before it.
+pub fn write_set_field(out: &mut [u8], at: usize, s: RoleSet) -> usize
+    requires { ⌜ at + length (space ∷ setText (s .bits)) ≤ length (now out) ⌝ }
+    ensures { λ next. ⌜ Wrote (now (out .entry)) at (space ∷ setText (s .bits)) (now (out .exit)) next ⌝ }
+{
+    out[at] = b' ';
+    write_set(out, at + 1, s)
 }

@@ -104,3 +104,11 @@ pub fn hand_out<'a>(w: Walker<'a>) -> Handed
 {
     hand(w.area, w.next)
 }
+
+// The row of a number, by a walker that stands there.
+pub fn row_of(area: &[u8], row: usize) -> Handed
+    requires { ⌜ Walkable (now area) row ⌝ }
+    ensures { λ r. ⌜ r ≡ handed (now (area .entry)) row ⌝ }
+{
+    hand_out(Walker { area, next: row })
+}

@@ -1,7 +1,11 @@
-// What C calls: the calls of `cache`, with the answers as numbers. `include/wickthrush.h` declares them.
+// What C calls: the calls of `cache` and `print`, with the answers as numbers. `include/wickthrush.h` declares them.
 use calls::number;
+use print::Written;
+use print::print_open;
+use print::print_row;
 ghost use mathlib.Core.Path.{_≡_};
 ghost use Rattle.calls.specs.Calls.{openOf, replyOf, updateOf, decideOf, forgetOf};
+ghost use Rattle.print.specs.Print.{printOpenOf, printRowOf, Prints};
 ghost use Rattle.wickthrush.specs.Numbers.{Returns, decidedOf};
 
 #[no_mangle]
@@ -49,4 +53,18 @@ pub extern "C" fn wickthrush_forget(area: &mut [u8], permission: u32) -> u32
     ensures { λ n. ⌜ Returns (forgetOf (now (area .entry)) permission) n (now (area .exit)) ⌝ }
 {
     number(cache::forget(area, permission))
+}
+
+#[no_mangle]
+pub extern "C" fn wickthrush_print_open(area: &[u8], out: &mut [u8]) -> Written
+    ensures { λ r. ⌜ Prints (printOpenOf (now (area .entry)) (now (out .entry))) r (now (out .exit)) ⌝ }
+{
+    print_open(area, out)
+}
+
+#[no_mangle]
+pub extern "C" fn wickthrush_print_row(area: &[u8], row: u64, out: &mut [u8]) -> Written
+    ensures { λ r. ⌜ Prints (printRowOf (now (area .entry)) row (now (out .entry))) r (now (out .exit)) ⌝ }
+{
+    print_row(area, row, out)
 }

@@ -7,9 +7,8 @@ use lib.ListN.{length, set, length-set}
 use Rattle.text.specs.Ascii.{space, lf}
 use Rattle.text.specs.Number.{numberText}
 use Rattle.text.specs.Write.{Wrote}
-use Rattle.text.proofs.WriteLaws.{wrote-one, wrote-then, wrote-length}
+use Rattle.text.proofs.WriteLaws.{wrote-one, wrote-then, wrote-length, room-first, wrote-room}
 use Rattle.answers.specs.Texts.{withRole, roleText, answerText}
-use Rattle.answers.proofs.Texts.{room-first, wrote-room}
 use Rattle.answers.proofs.write.write_decided.Statement.{statement}
 use Rattle.answers.proofs.write.write_decided.Tie as tie
 

@@ -15,9 +15,8 @@ use Rattle.text.specs.Ascii.{space, lf}
 use Rattle.text.specs.Number.{numberText}
 use Rattle.text.specs.Set.{setText}
 use Rattle.text.specs.Write.{Wrote}
-use Rattle.text.proofs.WriteLaws.{wrote-one, wrote-then, wrote-length}
+use Rattle.text.proofs.WriteLaws.{wrote-one, wrote-then, wrote-length, room-first, wrote-room}
 use Rattle.answers.specs.Texts.{equals, setsText, rowText}
-use Rattle.answers.proofs.Texts.{room-first, wrote-room}
 use Rattle.answers.proofs.write.write_row.Statement.{statement}
 use Rattle.answers.proofs.write.write_row.Tie as tie
 
@@ -75,8 +74,8 @@ write-number-requires c κs =
     let s = c .before .before .before .before .before in
     wrote-room (signed (s .args .out .now) (s .args .at) (s .args .p) (rowOf (s .args .w)) (s .pre .1)) (numberText (s .args .p)) (second (s .args .out .now) (s .args .at) (s .args .p) (rowOf (s .args .w)) (s .pre .1))
 
-write-field-requires : tie.Need-write-field-requires
-write-field-requires c κs =
+write-set-field-requires : tie.Need-write-set-field-requires
+write-set-field-requires c κs =
     let s = c .before .before .before .before .before .before .before .before .before in
     let v = c .before .before .before .write-number in
     one (s .args .out .now) (s .args .at) (s .args .p) (rowOf (s .args .w)) (s .pre .1) (v .last .0) (v .result) (v .ensures)
@@ -95,14 +94,14 @@ write-sets-requires : tie.Need-write-sets-requires
 write-sets-requires c κs =
     let s = c .before .before .before .before .before .before .before .before .before .before .before .before .before .before in
     let v = c .before .before .before .before .before .before .before .before .write-number in
-    let u = c .before .before .before .before .write-field in
+    let u = c .before .before .before .before .write-set-field in
     others (s .args .out .now) (s .args .at) (s .args .p) (rowOf (s .args .w)) (s .pre .1) (v .last .0) (v .result) (v .ensures) (u .last .0) (u .result) (u .ensures)
 
 slice-write-out-3 : tie.Need-slice-write-out-3
 slice-write-out-3 c =
     let s = c .before .before .before .before .before .before .before .before .before .before .before .before .before .before .before .before .before in
     let v = c .before .before .before .before .before .before .before .before .before .before .before .write-number in
-    let u = c .before .before .before .before .before .before .before .write-field in
+    let u = c .before .before .before .before .before .before .before .write-set-field in
     let y = c .before .before .write-sets in
     last (s .args .out .now) (s .args .at) (s .args .p) (rowOf (s .args .w)) (s .pre .1) (v .last .0) (v .result) (v .ensures) (u .last .0) (u .result) (u .ensures) (y .last .0) (y .result) (y .ensures)
 
@@ -110,7 +109,7 @@ add-result : tie.Need-add-result
 add-result c =
     let s = c .before .before .before .before .before .before .before .before .before .before .before .before .before .before .before .before .before in
     let v = c .before .before .before .before .before .before .before .before .before .before .before .write-number in
-    let u = c .before .before .before .before .before .before .before .write-field in
+    let u = c .before .before .before .before .before .before .before .write-set-field in
     let y = c .before .before .write-sets in
     let h = last (s .args .out .now) (s .args .at) (s .args .p) (rowOf (s .args .w)) (s .pre .1) (v .last .0) (v .result) (v .ensures) (u .last .0) (u .result) (u .ensures) (y .last .0) (y .result) (y .ensures) in
     omega (arith, h, wrote-length (listed (s .args .out .now) (s .args .at) (s .args .p) (rowOf (s .args .w)) (s .pre .1) (v .last .0) (v .result) (v .ensures) (u .last .0) (u .result) (u .ensures) (y .last .0) (y .result) (y .ensures)))
@@ -119,12 +118,12 @@ returns : tie.Need-returns
 returns c =
     let s = c .before .before .before .before .before .before .before .before .before .before .before .before .before .before .before .before .before in
     let v = c .before .before .before .before .before .before .before .before .before .before .before .write-number in
-    let u = c .before .before .before .before .before .before .before .write-field in
+    let u = c .before .before .before .before .before .before .before .write-set-field in
     let y = c .before .before .write-sets in
     whole (s .args .out .now) (s .args .at) (s .args .p) (rowOf (s .args .w)) (s .pre .1) (v .last .0) (v .result) (v .ensures) (u .last .0) (u .result) (u .ensures) (y .last .0) (y .result) (y .ensures)
 
 pub write-row-spec : {M : Type 1} → statement M
 write-row-spec =
     tie.close
-    (tie.spec slice-write-out (λ c. search needs) slice-write-out-2 (λ c. search needs) write-number-requires write-field-requires
+    (tie.spec slice-write-out (λ c. search needs) slice-write-out-2 (λ c. search needs) write-number-requires write-set-field-requires
     array-share-prefix-sets slice-aggregate-write-sets write-sets-requires slice-write-out-3 add-result (λ c. wrote-length (returns c)) returns)

@@ -22,8 +22,8 @@ abbrev μ-loop : tie.MeasureT-loop
 loop-holds : tie.Need-loop-holds Inv-loop μ-loop
 loop-holds c = let a = c .before .before .args in (search needs, c .before .before .pre, left-start (a .out .now) (a .at) (setsText (a .sets .now)))
 
-write-field-requires : tie.Need-write-field-requires Inv-loop μ-loop
-write-field-requires c κs =
+write-set-field-requires : tie.Need-write-set-field-requires Inv-loop μ-loop
+write-set-field-requires c κs =
     let l = c .before .before .before .loop in
     let sets = c .before .before .before .before .before .before .args .sets .now in
     left-room ((space ∷ []) ++ setText (getD sets (l .i) 0)) (setsText (drop (l .i + 1) sets)) (l .inv .2) (sets-next sets (l .i) (omega arith)) (l .inv .1)
@@ -32,7 +32,7 @@ loop-again : tie.Need-loop-again Inv-loop μ-loop
 loop-again c =
     let l = c .before .before .before .before .before .before .loop in
     let sets = c .before .before .before .before .before .before .before .before .before .args .sets .now in
-    (omega arith, l .inv .1, left-next (l .inv .2) (sets-next sets (l .i) (omega arith)) (c .before .before .write-field .ensures))
+    (omega arith, l .inv .1, left-next (l .inv .2) (sets-next sets (l .i) (omega arith)) (c .before .before .write-set-field .ensures))
 
 returns : tie.Need-returns Inv-loop μ-loop
 returns c =
@@ -42,5 +42,5 @@ returns c =
 pub write-sets-spec : {M : Type 1} → statement M
 write-sets-spec =
     tie.close
-    (tie.spec Inv-loop μ-loop loop-holds (λ c. search needs) (λ c. search needs) (λ c. search needs) write-field-requires (λ c. search needs) loop-again
+    (tie.spec Inv-loop μ-loop loop-holds (λ c. search needs) (λ c. search needs) (λ c. search needs) write-set-field-requires (λ c. search needs) loop-again
     (λ c. c .before .loop .inv .2 .same) returns)

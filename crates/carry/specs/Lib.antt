@@ -1,0 +1,2 @@
+-- What the theorems of `carry` state.
+pub mod Carry

@@ -1,0 +1,1 @@
+// An area printed and fed to another, as mathematics: `specs/Carry.antt`.

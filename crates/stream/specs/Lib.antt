@@ -1,0 +1,3 @@
+-- What the contracts of `stream` cite.
+pub mod Turns
+pub mod Moves
