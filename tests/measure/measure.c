@@ -25,6 +25,9 @@ struct yardstick_decided DECIDE(const uint8_t *area, size_t len, uint32_t permis
 #ifdef REPLY
 uint32_t REPLY(uint8_t *area, size_t len, uint32_t permission, uint64_t verdict, uint64_t set);
 #endif
+#ifdef UPDATE
+uint32_t UPDATE(uint8_t *area, size_t len, uint32_t permission, uint64_t kind, uint64_t role);
+#endif
 #ifdef PRINT_OPEN
 struct written PRINT_OPEN(const uint8_t *area, size_t len, uint8_t *out, size_t out_len);
 #endif
@@ -127,6 +130,27 @@ static uint32_t new_row(void)
 }
 #endif
 
+#ifdef UPDATE
+/* The lowest role of the first open set: of pairs every set that has it goes. */
+static uint32_t update(uint64_t kind)
+{
+    uint64_t role = 0;
+    while (first_open >> role > 1 && (first_open >> role & 1) == 0)
+        role++;
+    return UPDATE(area, AREA_BYTES, permission, kind, role);
+}
+
+static uint32_t withdrawn(void)
+{
+    return update(0);
+}
+
+static uint32_t given(void)
+{
+    return update(1);
+}
+#endif
+
 #ifdef PRINT_OPEN
 static struct written print_open(void)
 {
@@ -177,6 +201,10 @@ static const struct call {
     {"allow-first", allow_first, NULL, NULL},
     {"allow-last", allow_last, NULL, NULL},
     {"new-row", new_row, NULL, NULL},
+#endif
+#ifdef UPDATE
+    {"withdrawn", withdrawn, NULL, NULL},
+    {"given", given, NULL, NULL},
 #endif
 #ifdef PRINT_OPEN
     {"print-open", NULL, NULL, print_open},

@@ -1,7 +1,7 @@
 -- The state after a row is overwritten, made or taken out, and what is known of rows by value. Assumes nothing.
 use mathlib.Core.Path.{_≡_, sym, ap, _∙_, subst⁻¹}
 use mathlib.Core.Bool.{true, false}
-use mathlib.Core.List.{List}
+use mathlib.Core.List.{List, []}
 use Prim.Native.Nat.{ℕ, _≤_, _<_}
 use native.Mathlib.Omega.{arith}
 use lib.Dec.{T}
@@ -11,19 +11,19 @@ use Rattle.roles.specs.Sets.{mostRoles}
 use Rattle.meaning.specs.declared.Happening.{Happening}
 use Rattle.meaning.specs.Events.{known}
 use Rattle.meaning.specs.Rows.{Row, blank, mostOpens, fits, settle}
+use Rattle.meaning.proofs.OpenLaws.{free-none}
 use Rattle.meaning.proofs.Steps.{known-more}
 use Rattle.meaning.proofs.Answers.{fits-law}
 use Rattle.meaning.proofs.Theorems.{settle-fits}
 use Rattle.area.specs.State.{Entry, isBlank, rowFor, withRow, place, insertAt, removeAt, stateOf, areaOf, entry}
-use Rattle.area.proofs.RowLaws.{Hit, hit-law, hit-row, miss-row, place-most, put-over, put-new, put-out, put-not}
+use Rattle.area.proofs.RowLaws.{Hit, hit-law, hit-row, miss-row, place-most, row-good, put-over, put-new, put-out, put-not}
 use Rattle.area.proofs.Bytes.{good-state, good-area}
 use Rattle.rows.specs.declared.Row as stored-row
 use Rattle.rows.specs.declared.Settled as stored-settled
 use Rattle.rows.specs.declared.Answer as stored-answer
 use Rattle.rows.specs.Stored as stored-specs
-use Rattle.rows.specs.Stored.{Tidy, held, rowOf, storedRow, answerNumber}
-use Rattle.rows.proofs.Padded.{stored⇒tidy, stored⇒row, tidy-count}
-use Rattle.table.proofs.RowWords.{opens-few}
+use Rattle.rows.specs.Stored.{Tidy, Proper, held, rowOf, storedRow, answerNumber}
+use Rattle.rows.proofs.Padded.{stored⇒tidy, stored⇒proper, stored⇒row, tidy-count}
 use Rattle.table.specs.Table.{rowsIn, Sound, holding, nth, foundFor}
 use Rattle.table.specs.declared.Found.the-variants.{At, Vacant}
 use Rattle.calls.specs.Calls.{eventOn, eventOf}
@@ -80,8 +80,14 @@ module _ (l : List ℕ) (s : Sound l) (p i : ℕ) where
 -- ---- rows by value
 
 module _ (l : List ℕ) (s : Sound l) (i : ℕ) (h : i < length (rowsIn l)) (w : stored-row.Row) (e : w ≡ storedRow (nth i (rowsIn l) .row)) where
-  pub read-tidy : Tidy mostOpens (w .opens)
-  read-tidy = stored⇒tidy mostOpens (w .opens) (nth i (rowsIn l) .row .opens) (ap (λ (x : stored-row.Row). x .opens) e) (opens-few l s i h)
+  -- the rules of a good area ask that no open set is part of another
+  pub read-proper : Proper (w .opens)
+  read-proper =
+      let g = row-good (stateOf l .roles) 0 (rowsIn l) (good-state l (s .good) .good-rows) i h .good-row in
+      stored⇒proper (w .opens) (nth i (rowsIn l) .row .opens) (ap (λ (x : stored-row.Row). x .opens) e) (g .few) (g .good .free)
+
+pub blank-proper : (w : stored-row.Row) → w ≡ storedRow blank → Proper (w .opens)
+blank-proper w e = stored⇒proper (w .opens) [] (ap (λ (x : stored-row.Row). x .opens) e) (omega arith) free-none
 
 pub fitting-tidy : (w : stored-row.Row) (v : Row) → w ≡ storedRow v → fits v ≡ true → Tidy mostOpens (w .opens)
 fitting-tidy w v e f = stored⇒tidy mostOpens (w .opens) (v .opens) (ap (λ (x : stored-row.Row). x .opens) e) (fits-law v .0 (subst⁻¹ T f tt))

@@ -43,8 +43,10 @@ first-good n d l k g = record {
   below = λ o m. g .below o (mem-first l k o m);
   nonempty = λ o m. g .nonempty o (mem-first l k o m);
   apart-from-denied = λ o m. g .apart-from-denied o (mem-first l k o m);
-  ascending = ascending-first l k (g .ascending);
-  no-part = λ o p m q t. g .no-part o p (mem-first l k o m) (mem-first l k p q) t;
+  free = record {
+    ascending = ascending-first l k (g .free .ascending);
+    no-part = λ o p m q t. g .free .no-part o p (mem-first l k o m) (mem-first l k p q) t;
+  };
 }
 
 -- an open set of a good row is not denied

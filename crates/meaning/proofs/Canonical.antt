@@ -26,7 +26,7 @@ open-in n v w gv gw same o m =
     let p = open-part n v w gv gw (λ h. same h .1) o m in
     let q = open-part n w v gw gv (λ h. same h .0) (p .0) (p .1) in
     -- q is part of p, which is part of o: q is o, and so p is o
-    let e : q .0 ≡ o = gv .no-part (q .0) o (q .1) m (partOf-trans (q .0) (p .0) o (q .2) (p .2)) in
+    let e : q .0 ≡ o = gv .free .no-part (q .0) o (q .1) m (partOf-trans (q .0) (p .0) o (q .2) (p .2)) in
     subst (λ (x : ℕ). Mem x (w .opens)) (partOf-antisym (p .0) o (p .2) (subst (λ (x : ℕ). T (partOf x (p .0))) e (q .2))) (p .1)
 
 pub canonical : (n : ℕ) (v w : Row) → Good n v → Good n w → ((h : ℕ) → Leaves n v h ↔ Leaves n w h) → v ≡ w
@@ -34,4 +34,4 @@ canonical n v w gv gw same =
     let back : (h : ℕ) → Leaves n w h ↔ Leaves n v h = λ h. Iff·symm (same h) in
     ap₂ {C = Row} (λ (d : ℕ) (l : List ℕ). record { denied = d; opens = l })
     (set-ext (v .denied) (w .denied) (λ r. (denied-in n v w gv gw (λ h. same h .1) r, denied-in n w v gw gv (λ h. same h .0) r)))
-    (ascending-ext (v .opens) (w .opens) (gv .ascending) (gw .ascending) (λ o. (open-in n v w gv gw same o, open-in n w v gw gv back o)))
+    (ascending-ext (v .opens) (w .opens) (gv .free .ascending) (gw .free .ascending) (λ o. (open-in n v w gv gw same o, open-in n w v gw gv back o)))

@@ -13,7 +13,8 @@ use Rattle.meaning.specs.Events.{rolesIn, known}
 use Rattle.meaning.specs.Lists.{Mem, put}
 use Rattle.meaning.specs.Rows.{Row, blank, Good, hasPart, losing, apart, reduce, denying, allowing, clearing, giving, withdrawing, contradicts, step}
 use Rattle.meaning.proofs.ListLaws.{put-law, put-ascending, ascending-ext}
-use Rattle.meaning.proofs.OpenLaws.{Least, noPart-law, losing-law, apart-law, apart-ascending, reduce-law, reduce-least, reduce-ascending}
+use Rattle.meaning.proofs.OpenLaws.{noPart-law, losing-law, apart-law, apart-free, free-none, reduce-law, reduce-free}
+use Rattle.meaning.proofs.Adding.{added-beside, reduce-one}
 use Rattle.meaning.proofs.Steps.{known-below}
 use Rattle.meaning.specs.declared.Happening.{Happening}
 use Rattle.meaning.specs.declared.Happening.the-variants.{Allow, Deny, Given, Withdrawn}
@@ -25,7 +26,7 @@ record Fit (n d o : ℕ) : Type 0 where
   apart-from-denied : ¬ (T (shares o d))
 
 pub blank-good : (n : ℕ) → Good n blank
-blank-good n = record { denied-below = pow-pos n; below = λ o m. absurd m; nonempty = λ o m. absurd m; apart-from-denied = λ o m. absurd m; ascending = tt; no-part = λ o p m. absurd m }
+blank-good n = record { denied-below = pow-pos n; below = λ o m. absurd m; nonempty = λ o m. absurd m; apart-from-denied = λ o m. absurd m; free = free-none }
 
 reduced-good : (n d : ℕ) (l : List ℕ) → d < 2 ^ n → ((o : ℕ) → Mem o l → Fit n d o) → Good n (record { denied = d; opens = reduce l })
 reduced-good n d l b f =
@@ -35,8 +36,7 @@ reduced-good n d l b f =
       below = λ o m. from o m .below;
       nonempty = λ o m. from o m .nonempty;
       apart-from-denied = λ o m. from o m .apart-from-denied;
-      ascending = reduce-ascending l;
-      no-part = λ o p m k t. reduce-least l p .0 k .1 o (reduce-law l o .0 m .0) t;
+      free = reduce-free l;
     }
 
 -- what is left of s without d, where s is not part of d
@@ -85,8 +85,7 @@ module _ (n : ℕ) (w : Row) (g : Good n w) where
         below = λ o m. g .below o (from o .0 m .0);
         nonempty = λ o m. g .nonempty o (from o .0 m .0);
         apart-from-denied = λ o m. f o (from o .0 m .0) (from o .0 m .1);
-        ascending = apart-ascending u (w .opens) (g .ascending);
-        no-part = λ o p m k. g .no-part o p (from o .0 m .0) (from p .0 k .0);
+        free = apart-free u (w .opens) (g .free);
       }
 
   pub withdrawing-good : (u : ℕ) → u < 2 ^ n → Good n (withdrawing u w)
@@ -131,16 +130,8 @@ given-opens n r w g =
       λ i. in-without u (without (w .denied) u) q .1 (i, λ j. in-without (w .denied) u q .0 j .1 i),
     )) in
     -- an open set apart from r and {r} are not part of each other
-    let not-in : (o : ℕ) → Mem o l → T (partOf o u) → ⊥ = λ o m t. let i = some-in o (k .nonempty o m) in
-    apart-law u (w .opens) o .0 m .1 (shares-at o u (i .0) (i .1) (partOf-law o u .0 t (i .0) (i .1))) in
-    let not-over : (o : ℕ) → Mem o l → T (partOf u o) → ⊥ = λ o m t.
-    apart-law u (w .opens) o .0 m .1 (shares-at o u r (partOf-law u o .0 t r (in-own-single r)) (in-own-single r)) in
-    let least : (o : ℕ) → Mem o (u ∷ l) → Least o (u ∷ l) = λ o m y m′ t. ⊎-elim
-    (λ p. ⊎-elim (λ q. q ∙ sym p) (λ q. absurd (not-in y q (subst (λ (z : ℕ). T (partOf y z)) p t))) m′)
-    (λ p. ⊎-elim (λ q. absurd (not-over o p (subst (λ (z : ℕ). T (partOf z o)) q t))) (λ q. k .no-part y o q p t) m′)
-    m in
     ap (λ (z : ℕ). reduce (z ∷ l)) e
-    ∙ ascending-ext (reduce (u ∷ l)) (put u l) (reduce-ascending (u ∷ l)) (put-ascending u l (k .ascending)) (λ o. (
-      (λ m. put-law u l o .1 (reduce-law (u ∷ l) o .0 m .0)),
-      λ m. reduce-least (u ∷ l) o .1 (put-law u l o .0 m, least o (put-law u l o .0 m)),
-    ))
+    ∙ reduce-one u l (k .free)
+    ∙ added-beside u l
+    (λ o m t. let i = some-in o (k .nonempty o m) in apart-law u (w .opens) o .0 m .1 (shares-at o u (i .0) (i .1) (partOf-law o u .0 t (i .0) (i .1))))
+    (λ o m t. apart-law u (w .opens) o .0 m .1 (shares-at o u r (partOf-law u o .0 t r (in-own-single r)) (in-own-single r)))

@@ -2,6 +2,7 @@
 pub mod ListLaws
 pub mod Walks
 pub mod OpenLaws
+pub mod Adding
 pub mod Steps
 pub mod Kept
 pub mod Verdicts

@@ -1,7 +1,7 @@
 -- Laws of lists of open sets: their members, what reducing leaves of them, and which holder sets meet them. Assumes nothing.
-use mathlib.Core.Path.{_≡_, refl, sym, ap, _∙_, subst, subst⁻¹}
-use mathlib.Core.Bool.{not, _&&_}
-use mathlib.Core.List.{List, [], _∷_, _++_}
+use mathlib.Core.Path.{_≡_, refl, sym, ap, ap₂, _∙_, subst, subst⁻¹}
+use mathlib.Core.Bool.{Bool, false, not, _&&_}
+use mathlib.Core.List.{List, [], _∷_, _++_, map}
 use mathlib.Core.Logic.{_↔_, _≢_, inl, inr, ⊎-elim, Iff·trans, Iff·symm}
 use Prim.Native.Nat.{ℕ, zero, suc, _<_, _≤_}
 use native.Mathlib.Decide.{ℕ-discrete}
@@ -10,9 +10,9 @@ use lib.Dec.{T, T-not, not-T, eqb, eqb→eq, eqb-refl}
 use lib.ListN.{length, length-map}
 use Rattle.roles.specs.Sets.{without, shares, partOf}
 use Rattle.roles.proofs.Tests.{T?, T-and}
-use Rattle.roles.proofs.Laws.{partOf-refl, partOf-trans, partOf-antisym, partOf-le, shares-partOf, shares-without}
+use Rattle.roles.proofs.Laws.{partOf-refl, partOf-trans, partOf-antisym, partOf-le, shares-sym, shares-partOf, without-none, shares-without}
 use Rattle.meaning.specs.Lists.{Mem, Ascending, keep, inOrder}
-use Rattle.meaning.specs.Rows.{hasPart, hasProperPart, losing, apart, reduce}
+use Rattle.meaning.specs.Rows.{Free, hasPart, hasProperPart, losing, apart, sharing, reduce}
 use Rattle.meaning.proofs.ListLaws.{any-law, none-law, keep-law, keep-ascending, length-keep, inOrder-law, inOrder-ascending, mem-snoc, ascending-snoc, ascending-ext}
 
 -- ---- parts
@@ -24,6 +24,10 @@ hasPart-law s l = any-law (λ o. partOf o s) l
 pub noPart-law : (s : ℕ) (l : List ℕ) → T (not (hasPart s l)) → (o : ℕ) → Mem o l → T (not (partOf o s))
 unfolding hasPart
 noPart-law s l = none-law (λ o. partOf o s) l .0
+
+pub noPart : (s : ℕ) (l : List ℕ) → ((o : ℕ) → Mem o l → ¬ (T (partOf o s))) → T (not (hasPart s l))
+unfolding hasPart
+noPart s l f = none-law (λ o. partOf o s) l .1 (λ o m. not-T (partOf o s) (f o m))
 
 properPart-law : (o s : ℕ) → T (partOf o s && not (eqb o s)) ↔ (T (partOf o s) × (o ≢ s))
 properPart-law o s = (
@@ -68,9 +72,27 @@ apart-law u l o = (
     law : Mem o (keep (λ o. not (shares o u)) l) ↔ (Mem o l × T (not (shares o u)))
     law = keep-law (λ o. not (shares o u)) l o
 
-pub apart-ascending : (u : ℕ) (l : List ℕ) → Ascending l → Ascending (apart u l)
+apart-ascending : (u : ℕ) (l : List ℕ) → Ascending l → Ascending (apart u l)
 unfolding apart
 apart-ascending u l = keep-ascending (λ o. not (shares o u)) l
+
+-- sets of which none is part of another stay so
+pub apart-free : (u : ℕ) (l : List ℕ) → Free l → Free (apart u l)
+apart-free u l f =
+    let from = apart-law u l in
+    record { ascending = apart-ascending u l (f .ascending); no-part = λ o p m k. f .no-part o p (from o .0 m .0) (from p .0 k .0) }
+
+-- nothing is lost where no set shares a role
+pub losing-none : (s : ℕ) (l : List ℕ) → sharing s l ≡ false → losing s l ≡ l
+unfolding losing sharing
+losing-none s l e = go l (none-law (shares s) l .0 (subst⁻¹ (λ (b : Bool). T (not b)) e tt))
+  where
+    go : (l : List ℕ) → ((o : ℕ) → Mem o l → T (not (shares s o))) → map (λ o. without o s) l ≡ l
+    go [] f = refl
+    go (o ∷ l) f =
+        ap₂ (λ (x : ℕ) (k : List ℕ). x ∷ k)
+        (without-none o s (λ t. T-not (shares s o) (f o (inl refl)) (shares-sym o s t)))
+        (go l (λ x m. f x (inr m)))
 
 pub length-losing : (s : ℕ) (l : List ℕ) → length (losing s l) ≡ length l
 unfolding losing
@@ -103,6 +125,20 @@ pub reduce-ascending : (l : List ℕ) → Ascending (reduce l)
 unfolding reduce
 reduce-ascending l = inOrder-ascending _
 
+pub free-none : Free []
+free-none = record { ascending = tt; no-part = λ o p m. absurd m }
+
+-- none is part of another
+pub reduce-free : (l : List ℕ) → Free (reduce l)
+reduce-free l = record { ascending = reduce-ascending l; no-part = λ o p m k t. reduce-least l p .0 k .1 o (reduce-law l o .0 m .0) t }
+
+-- and such sets are left as they are
+pub free-reduced : (l : List ℕ) → Free l → reduce l ≡ l
+free-reduced l f = ascending-ext (reduce l) l (reduce-ascending l) (f .ascending) (λ x. (
+  (λ m. reduce-law l x .0 m .0),
+  λ m. reduce-least l x .1 (m, λ o k t. f .no-part o x k m t),
+))
+
 -- every set of the list has a part in the reduced list: a proper part is smaller as a number, so going to one ends
 pub reduce-part : (l : List ℕ) (x : ℕ) → Mem x l → (y : ℕ) × Mem y (reduce l) × T (partOf y x)
 reduce-part l x m = from (suc x) x (omega arith) m
@@ -125,11 +161,6 @@ reduce-ext l k same = ascending-ext (reduce l) (reduce k) (reduce-ascending l) (
   where
     kept : (l k : List ℕ) → ((x : ℕ) → Mem x l ↔ Mem x k) → (x : ℕ) → Mem x (reduce l) → Mem x (reduce k)
     kept l k same x m = let p = reduce-least l x .0 m in reduce-least k x .1 (same x .0 (p .0), λ o n t. p .1 o (same o .1 n) t)
-
-pub reduce-last : (l : List ℕ) (x : ℕ) → reduce (l ++ x ∷ []) ≡ reduce (x ∷ l)
-reduce-last l x =
-    reduce-ext (l ++ x ∷ []) (x ∷ l)
-    (λ y. ((λ m. ⊎-elim (λ k. inr k) (λ e. inl e) (mem-snoc l x y .0 m)), (λ m. mem-snoc l x y .1 (⊎-elim (λ e. inr e) (λ k. inl k) m))))
 
 -- one set more goes where one that is kept is part of it; else it stays, if it is no smaller as a number than the others
 module _ (l : List ℕ) (x : ℕ) where

@@ -54,8 +54,10 @@ singles-good n k h =
       below = λ o m. let p = of o m in subst⁻¹ (λ (z : ℕ). z < 2 ^ n) (p .3) (single-below n (p .0) (let b = p .2 in omega arith));
       nonempty = λ o m. let p = of o m in subst⁻¹ (λ (z : ℕ). ¬ (z ≡ 0)) (p .3) (in⇒nonempty (single (p .0)) (p .0) (in-own-single (p .0)));
       apart-from-denied = λ o m. shares-empty o;
-      ascending = singles-ascending 0 k;
-      no-part = λ o x m m′ t. let p = of o m in
-          let q = of x m′ in
-          p .3 ∙ single-part (p .0) (q .0) (subst (λ (z : ℕ). T (partOf z (single (q .0)))) (p .3) (subst (λ (z : ℕ). T (partOf o z)) (q .3) t)) ∙ sym (q .3);
+      free = record {
+        ascending = singles-ascending 0 k;
+        no-part = λ o x m m′ t. let p = of o m in
+            let q = of x m′ in
+            p .3 ∙ single-part (p .0) (q .0) (subst (λ (z : ℕ). T (partOf z (single (q .0)))) (p .3) (subst (λ (z : ℕ). T (partOf o z)) (q .3) t)) ∙ sym (q .3);
+      };
     }

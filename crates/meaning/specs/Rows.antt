@@ -1,13 +1,16 @@
 -- A row: what is kept of one permission, which holder sets it leaves possible, and the steps that keep it so.
 --     Row, blank           the denied set and the open sets; a permission without a row has neither
 --     Leaves n w h         the row leaves the holder set h possible
+--     Free l               sets of which none is part of another, ascending
 --     Good n w             the layout rules for the sets of a row; how many there may be, and that a row says something, comes with the area
 --     mostOpens, fits w    a row has room for 15 open sets
 --     hasPart s l          some set of the list is part of s
 --     hasProperPart s l    some set of the list is part of s, and not s itself
 --     losing s l           the sets of the list, each without s
 --     apart u l            the sets of the list that share no role with u
+--     sharing s l          s shares a role with some set of the list
 --     reduce l             the sets of the list that have no other of it as a proper part, each once, ascending
+--     added x l            what reducing leaves of one set more beside sets that are free of parts: only x is held against each
 --     denying, allowing, clearing, giving, withdrawing    the steps, over plain sets
 --     contradicts e w      an allow on a set that is all denied, or a deny on a set of which an open set is part
 --     step e w             the row after the event
@@ -32,7 +35,7 @@ use lib.Dec.{T, eqb, leb}
 use lib.ListN.{length}
 use Rattle.roles.specs.Sets.{mostRoles, single, Below, joined, without, shares, partOf, outside}
 use Rattle.meaning.specs.Events.{HolderSet, known, agrees, isReply, Reply}
-use Rattle.meaning.specs.Lists.{Mem, Ascending, any, keep, inOrder}
+use Rattle.meaning.specs.Lists.{Mem, Ascending, any, keep, put, inOrder}
 use Rattle.meaning.specs.declared.Happening.{Happening}
 use Rattle.meaning.specs.declared.Happening.the-variants.{Allow, Deny, Given, Withdrawn}
 
@@ -49,13 +52,16 @@ pub record Leaves (n : ℕ) (w : Row) (h : ℕ) : Type 0 where
   pub denies : ¬ (T (shares h (w .denied)))
   pub meets : (o : ℕ) → Mem o (w .opens) → T (shares h o)
 
+pub record Free (l : List ℕ) : Type 0 where
+  pub ascending : Ascending l
+  pub no-part : (o p : ℕ) → Mem o l → Mem p l → T (partOf o p) → o ≡ p
+
 pub record Good (n : ℕ) (w : Row) : Type 0 where
   pub denied-below : Below n (w .denied)
   pub below : (o : ℕ) → Mem o (w .opens) → Below n o
   pub nonempty : (o : ℕ) → Mem o (w .opens) → o ≢ 0
   pub apart-from-denied : (o : ℕ) → Mem o (w .opens) → ¬ (T (shares o (w .denied)))
-  pub ascending : Ascending (w .opens)
-  pub no-part : (o p : ℕ) → Mem o (w .opens) → Mem p (w .opens) → T (partOf o p) → o ≡ p
+  pub free : Free (w .opens)
 
 abbrev pub mostOpens : ℕ
 mostOpens = 15
@@ -77,8 +83,15 @@ losing s l = map (λ o. without o s) l
 unfoldable pub apart : ℕ → List ℕ → List ℕ
 apart u l = keep (λ o. not (shares o u)) l
 
+unfoldable pub sharing : ℕ → List ℕ → Bool
+sharing s l = any (shares s) l
+
 unfoldable pub reduce : List ℕ → List ℕ
 reduce l = inOrder (keep (λ o. not (hasProperPart o l)) l)
+
+-- l itself where one of it is part of x; else x in its place beside those of which x is no part
+unfoldable pub added : ℕ → List ℕ → List ℕ
+added x l = cond (hasPart x l) l (put x (keep (λ o. not (partOf x o)) l))
 
 -- ---- the steps
 

@@ -11,6 +11,7 @@ use Rattle.roles.proofs.Tests.{T-and}
 use Rattle.roles.proofs.Laws.{partOf-le, leb-allBelow}
 use Rattle.meaning.specs.Lists.{Mem, Ascending}
 use Rattle.meaning.specs.Rows.{Good}
+use Rattle.meaning.proofs.OpenLaws.{free-none}
 use Rattle.meaning.proofs.ListLaws.{none-law}
 use Rattle.opens.specs.Opens.{allOf, belowFirst, openRules, opensGood}
 
@@ -47,7 +48,7 @@ module _ (n d : ℕ) where
   pub opensGood-law : (l : List ℕ) → d < 2 ^ n → T (opensGood (allBelow n) d l) ↔ Good n (record { denied = d; opens = l })
   unfolding opensGood
   opensGood-law [] b = (
-    (λ h. record { denied-below = b; below = λ o m. absurd m; nonempty = λ o m. absurd m; apart-from-denied = λ o m. absurd m; ascending = tt; no-part = λ o p m. absurd m }),
+    (λ h. record { denied-below = b; below = λ o m. absurd m; nonempty = λ o m. absurd m; apart-from-denied = λ o m. absurd m; free = free-none }),
     λ g. tt,
   )
   opensGood-law (o ∷ l) b = (
@@ -55,24 +56,26 @@ module _ (n d : ℕ) where
         let p = T-and (opensGood (allBelow n) d l) (allOf (openRules (allBelow n) d o l)) .0 h in
         let g = opensGood-law l b .0 (p .0) in
         let r = allOf-law (openRules (allBelow n) d o l) .0 (p .1) in
-        let above = ascending-first o l (r .1 .1 .1 .0) (g .ascending) in
+        let above = ascending-first o l (r .1 .1 .1 .0) (g .free .ascending) in
         let alone = none-law (partOf o) l .0 (r .1 .1 .1 .1 .0) in
         record {
           denied-below = b;
           below = λ x. ⊎-elim (λ e. subst⁻¹ (λ (z : ℕ). z < 2 ^ n) e (leb-allBelow n o .0 (r .1 .0))) (g .below x);
           nonempty = λ x. ⊎-elim (λ e. subst⁻¹ (λ (z : ℕ). z ≢ 0) e (nonzero o .0 (r .0))) (g .nonempty x);
           apart-from-denied = λ x. ⊎-elim (λ e. subst⁻¹ (λ (z : ℕ). ¬ (T (shares z d))) e (T-not (shares o d) (r .1 .1 .0))) (g .apart-from-denied x);
-          ascending = (above, g .ascending);
-          no-part = λ x y mx my t. ⊎-elim
-              (λ ex. ⊎-elim
-              (λ ey. ex ∙ sym ey)
-              (λ ky. absurd (T-not (partOf o y) (alone y ky) (subst (λ (z : ℕ). T (partOf z y)) ex t)))
-              my)
-              (λ kx. ⊎-elim
-              (λ ey. let le = partOf-le x y t in let lt = above x kx in absurd (let z : ⊥ = omega arith in z))
-              (λ ky. g .no-part x y kx ky t)
-              my)
-              mx;
+          free = record {
+            ascending = (above, g .free .ascending);
+            no-part = λ x y mx my t. ⊎-elim
+                (λ ex. ⊎-elim
+                (λ ey. ex ∙ sym ey)
+                (λ ky. absurd (T-not (partOf o y) (alone y ky) (subst (λ (z : ℕ). T (partOf z y)) ex t)))
+                my)
+                (λ kx. ⊎-elim
+                (λ ey. let le = partOf-le x y t in let lt = above x kx in absurd (let z : ⊥ = omega arith in z))
+                (λ ky. g .free .no-part x y kx ky t)
+                my)
+                mx;
+          };
         }),
     λ g.
         let rest : Good n (record { denied = d; opens = l }) = record {
@@ -80,8 +83,7 @@ module _ (n d : ℕ) where
           below = λ x m. g .below x (inr m);
           nonempty = λ x m. g .nonempty x (inr m);
           apart-from-denied = λ x m. g .apart-from-denied x (inr m);
-          ascending = g .ascending .1;
-          no-part = λ x y mx my. g .no-part x y (inr mx) (inr my);
+          free = record { ascending = g .free .ascending .1; no-part = λ x y mx my. g .free .no-part x y (inr mx) (inr my) };
         } in
         T-and (opensGood (allBelow n) d l) (allOf (openRules (allBelow n) d o l)) .1 (
           opensGood-law l b .1 rest,
@@ -92,10 +94,10 @@ module _ (n d : ℕ) where
               (
                 not-T (shares o d) (g .apart-from-denied o (inl refl)),
                 (
-                  first-ascending o l (g .ascending .0),
+                  first-ascending o l (g .free .ascending .0),
                   (
                     none-law (partOf o) l .1 (λ y m. not-T (partOf o y) (λ t.
-                        let e = g .no-part o y (inl refl) (inr m) t in let lt = g .ascending .0 y m in let z : ⊥ = omega arith in z)),
+                        let e = g .free .no-part o y (inl refl) (inr m) t in let lt = g .free .ascending .0 y m in let z : ⊥ = omega arith in z)),
                     tt,
                   ),
                 ),

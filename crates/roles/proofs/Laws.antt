@@ -157,6 +157,13 @@ without-below n s t = partOf-below n (without s t) s (without-partOf s t)
 pub without-apart : (s t : ℕ) → ¬ (T (shares (without s t) t))
 without-apart s t k = let p = shares-law (without s t) t .0 k in in-without s t (p .0) .0 (p .1) .1 (p .2)
 
+-- a set loses nothing by what it shares no role with
+pub without-none : (s t : ℕ) → ¬ (T (shares s t)) → without s t ≡ s
+without-none s t n = set-ext (without s t) s (λ r. ((λ i. in-without s t r .0 i .0), (λ i. in-without s t r .1 (i, λ j. n (shares-at s t r i j)))))
+
+pub empty-without : (t : ℕ) → without 0 t ≡ 0
+empty-without t = without-none 0 t (λ k. shares-empty t (shares-sym 0 t k))
+
 -- what shares nothing with d shares with s what it shares with the rest of s
 pub shares-without : (h s d : ℕ) → ¬ (T (shares h d)) → T (shares h (without s d)) ↔ T (shares h s)
 shares-without h s d n = (

@@ -2,4 +2,5 @@
 pub mod Padded
 mod Walks
 mod Sorting
+mod Spots
 pub mod Numbers

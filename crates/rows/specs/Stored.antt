@@ -3,6 +3,7 @@
 --     places               one place more than a row may hold, until a step's result is reduced
 --     padded k, stored k   the open sets of the list k in the first places, zeros behind them
 --     Tidy m l             `l` is so stored, with at most m open sets
+--     Proper l             `l` is so stored with at most 15 open sets, of which none is part of another
 --     rowOf, storedRow     the same for a row
 --     answerNumber, decidedOf    the number of each answer, and the decision of each verdict: Rules, Answers
 --     Gives t r            `r` is the answer and the row of t
@@ -34,6 +35,10 @@ stored k = record { sets = padded k; count = length k }
 pub record Tidy (m : ℕ) (l : OpenSets) : Type 0 where
   pub few : l .count ≤ m
   pub behind : l ≡ stored (held l)
+
+pub record Proper (l : OpenSets) : Type 0 where
+  pub tidy : Tidy meaning.mostOpens l
+  pub free : meaning.Free (held l)
 
 abbrev pub rowOf : Row → meaning.Row
 rowOf w = record { denied = w .denied .bits; opens = held (w .opens) }

@@ -1,6 +1,6 @@
 -- `cache::enter_new` meets its contract. Assumes nothing.
 use borrow.Author.Needs.{needs}
-use mathlib.Core.Path.{_≡_, refl, ap, _∙_, subst⁻¹}
+use mathlib.Core.Path.{_≡_, ap, _∙_, subst⁻¹}
 use mathlib.Core.Bool.{Bool, not}
 use mathlib.Core.List.{List}
 use Prim.Native.Nat.{ℕ}
@@ -8,7 +8,7 @@ use lib.Dec.{T}
 use Rattle.words.specs.Words.{Bytes}
 use Rattle.meaning.specs.declared.Happening.{Happening}
 use Rattle.meaning.specs.Events.{known}
-use Rattle.meaning.specs.Rows.{Row, blank, fits, settle}
+use Rattle.meaning.specs.Rows.{Row, blank, settle}
 use Rattle.area.specs.State.{isBlank, stateOf}
 use Rattle.rows.specs.Stored.{rowOf, storedRow}
 use Rattle.rows.specs.declared.Row as value
@@ -21,7 +21,7 @@ use Rattle.calls.specs.Answers.{Gives}
 use Rattle.cache.specs.Fresh.{Fresh}
 use Rattle.roles.proofs.Tests.{T-true}
 use Rattle.cache.proofs.Ladder.{gives, Entered, entered}
-use Rattle.cache.proofs.Writes.{event-none, area-kept, fitting-tidy, known-64, answered}
+use Rattle.cache.proofs.Writes.{event-none, area-kept, blank-proper, known-64, answered}
 use Rattle.cache.proofs.enter_new.Statement.{statement}
 use Rattle.cache.proofs.enter_new.Tie as tie
 
@@ -53,10 +53,9 @@ module _ (l : List ℕ) (s : Sound l) (p i : ℕ) (e : Happening) (f : foundFor 
 -- ---- the needs
 
 settle-requires : tie.Need-settle-requires
-unfolding fits
 settle-requires c κs =
     let s = c .before .before in
-    (fitting-tidy (c .blank .result) blank (c .blank .ensures) refl, known-64 (s .args .a .now) (s .pre .0) (s .args .e) (s .pre .2))
+    (blank-proper (c .blank .result) (c .blank .ensures), known-64 (s .args .a .now) (s .pre .0) (s .args .e) (s .pre .2))
 
 returns : tie.Need-returns
 returns c =

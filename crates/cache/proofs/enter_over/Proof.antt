@@ -18,7 +18,7 @@ use Rattle.calls.specs.Answers.{Gives}
 use Rattle.roles.proofs.Tests.{T-true}
 use Rattle.calls.proofs.CallLaws.{fitsIn-over, event-recorded}
 use Rattle.cache.proofs.Ladder.{gives, Entered, entered}
-use Rattle.cache.proofs.Writes.{row-inside, row-there, row-says, read-tidy, known-64, answered, settled-row, settled-tidy}
+use Rattle.cache.proofs.Writes.{row-inside, row-there, row-says, read-proper, known-64, answered, settled-row, settled-tidy}
 use Rattle.cache.proofs.enter_over.Statement.{statement}
 use Rattle.cache.proofs.enter_over.Tie as tie
 
@@ -54,7 +54,7 @@ settle-requires : tie.Need-settle-requires
 settle-requires c κs =
     let s = c .before .before .before in
     let l = s .args .a .now in
-    (read-tidy l (s .pre .0) (s .args .i) (row-inside l (s .pre .0) (s .args .p) (s .args .i) (s .pre .1)) (c .row-at .result) (c .row-at .ensures), known-64 l (s .pre .0) (s .args .e) (s .pre .2))
+    (read-proper l (s .pre .0) (s .args .i) (row-inside l (s .pre .0) (s .args .p) (s .args .i) (s .pre .1)) (c .row-at .result) (c .row-at .ensures), known-64 l (s .pre .0) (s .args .e) (s .pre .2))
 
 returns : tie.Need-returns
 returns c =
@@ -80,13 +80,13 @@ put-over-requires : tie.Need-put-over-requires
 put-over-requires c κs =
     let t = c .before .before .before .before in
     let s = t .before .before .before .before in
-    (s .pre .0, s .pre .1, settled-tidy (s .args .e) (t .before .row-at .result) (t .settle .result) (settle-requires (t .before) tt .0) (t .settle .ensures))
+    (s .pre .0, s .pre .1, settled-tidy (s .args .e) (t .before .row-at .result) (t .settle .result) (settle-requires (t .before) tt .0 .tidy) (t .settle .ensures))
 
 put-over-requires-2 : tie.Need-put-over-requires-2
 put-over-requires-2 c κs =
     let t = c .before .before .before .before in
     let s = t .before .before .before .before in
-    (s .pre .0, s .pre .1, settled-tidy (s .args .e) (t .before .row-at .result) (t .settle .result) (settle-requires (t .before) tt .0) (t .settle .ensures))
+    (s .pre .0, s .pre .1, settled-tidy (s .args .e) (t .before .row-at .result) (t .settle .result) (settle-requires (t .before) tt .0 .tidy) (t .settle .ensures))
 
 returns-3 : tie.Need-returns-3
 returns-3 c =
