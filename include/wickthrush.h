@@ -43,7 +43,7 @@ extern "C" {
 
 #define WICKTHRUSH_VERSION_MAJOR 0
 #define WICKTHRUSH_VERSION_MINOR 3
-#define WICKTHRUSH_VERSION_PATCH 1
+#define WICKTHRUSH_VERSION_PATCH 2
 
 /* The bytes of the lent area. */
 #define WICKTHRUSH_AREA_BYTES 18448

@@ -43,7 +43,7 @@ static uint8_t out[ROOM];
 /* The last row, its permission and sets of it; on an empty area the permission of row 0 and empty sets. */
 static uint64_t last_row;
 static uint32_t permission;
-static uint64_t denied_set, first_open, last_open, struck;
+static uint64_t denied_set, first_open, last_open, struck, first_role;
 
 /* Putting back alone, and with a thousand instructions: they prove the counter. */
 static uint32_t nothing(void)
@@ -132,22 +132,14 @@ static uint32_t new_row(void)
 
 #ifdef UPDATE
 /* The lowest role of the first open set: of pairs every set that has it goes. */
-static uint32_t update(uint64_t kind)
-{
-    uint64_t role = 0;
-    while (first_open >> role > 1 && (first_open >> role & 1) == 0)
-        role++;
-    return UPDATE(area, AREA_BYTES, permission, kind, role);
-}
-
 static uint32_t withdrawn(void)
 {
-    return update(0);
+    return UPDATE(area, AREA_BYTES, permission, 0, first_role);
 }
 
 static uint32_t given(void)
 {
-    return update(1);
+    return UPDATE(area, AREA_BYTES, permission, 1, first_role);
 }
 #endif
 
@@ -265,6 +257,8 @@ int main(int argc, char **argv)
         first_open = word(before, body_at(rows - 1) + 1);
         last_open = word(before, body_at(rows - 1) + opens);
         struck = strikable(rows - 1, opens, kind);
+        while (first_open >> first_role > 1 && (first_open >> first_role & 1) == 0)
+            first_role++;
     }
 
     uint32_t answer = 0;

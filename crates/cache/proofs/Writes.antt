@@ -11,7 +11,7 @@ use Rattle.roles.specs.Sets.{mostRoles}
 use Rattle.meaning.specs.declared.Happening.{Happening}
 use Rattle.meaning.specs.Events.{known}
 use Rattle.meaning.specs.Rows.{Row, blank, mostOpens, fits, settle}
-use Rattle.meaning.proofs.OpenLaws.{free-none}
+use Rattle.meaning.proofs.OpenLaws.{free-empty}
 use Rattle.meaning.proofs.Steps.{known-more}
 use Rattle.meaning.proofs.Answers.{fits-law}
 use Rattle.meaning.proofs.Theorems.{settle-fits}
@@ -87,7 +87,7 @@ module _ (l : List ℕ) (s : Sound l) (i : ℕ) (h : i < length (rowsIn l)) (w :
       stored⇒proper (w .opens) (nth i (rowsIn l) .row .opens) (ap (λ (x : stored-row.Row). x .opens) e) (g .few) (g .good .free)
 
 pub blank-proper : (w : stored-row.Row) → w ≡ storedRow blank → Proper (w .opens)
-blank-proper w e = stored⇒proper (w .opens) [] (ap (λ (x : stored-row.Row). x .opens) e) (omega arith) free-none
+blank-proper w e = stored⇒proper (w .opens) [] (ap (λ (x : stored-row.Row). x .opens) e) (omega arith) free-empty
 
 pub fitting-tidy : (w : stored-row.Row) (v : Row) → w ≡ storedRow v → fits v ≡ true → Tidy mostOpens (w .opens)
 fitting-tidy w v e f = stored⇒tidy mostOpens (w .opens) (v .opens) (ap (λ (x : stored-row.Row). x .opens) e) (fits-law v .0 (subst⁻¹ T f tt))

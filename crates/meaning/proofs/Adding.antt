@@ -11,8 +11,8 @@ use Rattle.roles.proofs.Tests.{T?, T-true, T-false}
 use Rattle.roles.proofs.Laws.{partOf-trans, partOf-antisym, partOf-le}
 use Rattle.meaning.specs.Lists.{Mem, keep, put}
 use Rattle.meaning.specs.Rows.{Free, hasPart, reduce, added}
-use Rattle.meaning.proofs.ListLaws.{none-law, keep-law, keep-ascending, keep-all, keep-snoc, put-law, put-ascending, put-below, put-last, mem-snoc, ascending-ext}
-use Rattle.meaning.proofs.OpenLaws.{hasPart-law, noPart-law, noPart, reduce-least, reduce-ascending}
+use Rattle.meaning.proofs.ListLaws.{keep-law, keep-ascending, keep-all, keep-snoc, put-law, put-ascending, put-below, put-last, mem-snoc, ascending-ext}
+use Rattle.meaning.proofs.OpenLaws.{hasPart-law, noPart-law, none⇒noPart, reduce-least, reduce-ascending}
 
 -- the sets of which x is no part
 abbrev others : ℕ → List ℕ → List ℕ
@@ -31,7 +31,7 @@ module _ (x : ℕ) (l : List ℕ) where
 
   -- where x is part of none either, all stay
   pub added-beside : ((o : ℕ) → Mem o l → ¬ (T (partOf o x))) → ((o : ℕ) → Mem o l → ¬ (T (partOf x o))) → added x l ≡ put x l
-  added-beside f g = added-new (noPart x l f) ∙ ap (put x) (keep-all (λ o. not (partOf x o)) l (λ o m. not-T (partOf x o) (g o m)))
+  added-beside f g = added-new (none⇒noPart x l f) ∙ ap (put x) (keep-all (λ o. not (partOf x o)) l (λ o m. not-T (partOf x o) (g o m)))
 
 -- ---- reduce, with one set more
 
@@ -101,7 +101,7 @@ module _ (x : ℕ) (l : List ℕ) (t : T (not (hasPart x l))) where
   -- a set above x behind the others goes where x is part of it, and else stays
   module _ (o : ℕ) (h : x < o) where
     pub noPart-above : T (not (hasPart x (l ++ o ∷ [])))
-    noPart-above = noPart x (l ++ o ∷ []) (λ y m. ⊎-elim
+    noPart-above = none⇒noPart x (l ++ o ∷ []) (λ y m. ⊎-elim
         (λ k. T-not (partOf y x) (noPart-law x l t y k))
         (λ e u. let le = partOf-le y x u in absurd (let z : ⊥ = omega arith in z))
         (mem-snoc l o y .0 m))

@@ -1,5 +1,5 @@
 -- Good rows stay good. Assumes nothing.
-use mathlib.Core.Path.{_≡_, sym, ap, _∙_, subst, subst⁻¹}
+use mathlib.Core.Path.{_≡_, ap, _∙_, subst⁻¹}
 use mathlib.Core.Bool.{not}
 use mathlib.Core.List.{List, _∷_}
 use mathlib.Core.Logic.{_≢_, ⊎-elim}
@@ -12,8 +12,7 @@ use Rattle.roles.proofs.Laws.{in⇒nonempty, in-own-single, shares-at, shares-p
 use Rattle.meaning.specs.Events.{rolesIn, known}
 use Rattle.meaning.specs.Lists.{Mem, put}
 use Rattle.meaning.specs.Rows.{Row, blank, Good, hasPart, losing, apart, reduce, denying, allowing, clearing, giving, withdrawing, contradicts, step}
-use Rattle.meaning.proofs.ListLaws.{put-law, put-ascending, ascending-ext}
-use Rattle.meaning.proofs.OpenLaws.{noPart-law, losing-law, apart-law, apart-free, free-none, reduce-law, reduce-free}
+use Rattle.meaning.proofs.OpenLaws.{noPart-law, losing-law, apart-law, apart-free, free-empty, reduce-law, reduce-free}
 use Rattle.meaning.proofs.Adding.{added-beside, reduce-one}
 use Rattle.meaning.proofs.Steps.{known-below}
 use Rattle.meaning.specs.declared.Happening.{Happening}
@@ -26,7 +25,7 @@ record Fit (n d o : ℕ) : Type 0 where
   apart-from-denied : ¬ (T (shares o d))
 
 pub blank-good : (n : ℕ) → Good n blank
-blank-good n = record { denied-below = pow-pos n; below = λ o m. absurd m; nonempty = λ o m. absurd m; apart-from-denied = λ o m. absurd m; free = free-none }
+blank-good n = record { denied-below = pow-pos n; below = λ o m. absurd m; nonempty = λ o m. absurd m; apart-from-denied = λ o m. absurd m; free = free-empty }
 
 reduced-good : (n d : ℕ) (l : List ℕ) → d < 2 ^ n → ((o : ℕ) → Mem o l → Fit n d o) → Good n (record { denied = d; opens = reduce l })
 reduced-good n d l b f =

@@ -12,7 +12,7 @@ use Rattle.roles.specs.Sets.{without, shares, partOf}
 use Rattle.roles.proofs.Tests.{T?, T-and}
 use Rattle.roles.proofs.Laws.{partOf-refl, partOf-trans, partOf-antisym, partOf-le, shares-sym, shares-partOf, without-none, shares-without}
 use Rattle.meaning.specs.Lists.{Mem, Ascending, keep, inOrder}
-use Rattle.meaning.specs.Rows.{Free, hasPart, hasProperPart, losing, apart, sharing, reduce}
+use Rattle.meaning.specs.Rows.{Free, hasPart, hasProperPart, losing, apart, sharesSome, reduce}
 use Rattle.meaning.proofs.ListLaws.{any-law, none-law, keep-law, keep-ascending, length-keep, inOrder-law, inOrder-ascending, mem-snoc, ascending-snoc, ascending-ext}
 
 -- ---- parts
@@ -25,9 +25,9 @@ pub noPart-law : (s : ℕ) (l : List ℕ) → T (not (hasPart s l)) → (o : ℕ
 unfolding hasPart
 noPart-law s l = none-law (λ o. partOf o s) l .0
 
-pub noPart : (s : ℕ) (l : List ℕ) → ((o : ℕ) → Mem o l → ¬ (T (partOf o s))) → T (not (hasPart s l))
+pub none⇒noPart : (s : ℕ) (l : List ℕ) → ((o : ℕ) → Mem o l → ¬ (T (partOf o s))) → T (not (hasPart s l))
 unfolding hasPart
-noPart s l f = none-law (λ o. partOf o s) l .1 (λ o m. not-T (partOf o s) (f o m))
+none⇒noPart s l f = none-law (λ o. partOf o s) l .1 (λ o m. not-T (partOf o s) (f o m))
 
 properPart-law : (o s : ℕ) → T (partOf o s && not (eqb o s)) ↔ (T (partOf o s) × (o ≢ s))
 properPart-law o s = (
@@ -83,8 +83,8 @@ apart-free u l f =
     record { ascending = apart-ascending u l (f .ascending); no-part = λ o p m k. f .no-part o p (from o .0 m .0) (from p .0 k .0) }
 
 -- nothing is lost where no set shares a role
-pub losing-none : (s : ℕ) (l : List ℕ) → sharing s l ≡ false → losing s l ≡ l
-unfolding losing sharing
+pub losing-none : (s : ℕ) (l : List ℕ) → sharesSome s l ≡ false → losing s l ≡ l
+unfolding losing sharesSome
 losing-none s l e = go l (none-law (shares s) l .0 (subst⁻¹ (λ (b : Bool). T (not b)) e tt))
   where
     go : (l : List ℕ) → ((o : ℕ) → Mem o l → T (not (shares s o))) → map (λ o. without o s) l ≡ l
@@ -125,8 +125,8 @@ pub reduce-ascending : (l : List ℕ) → Ascending (reduce l)
 unfolding reduce
 reduce-ascending l = inOrder-ascending _
 
-pub free-none : Free []
-free-none = record { ascending = tt; no-part = λ o p m. absurd m }
+pub free-empty : Free []
+free-empty = record { ascending = tt; no-part = λ o p m. absurd m }
 
 -- none is part of another
 pub reduce-free : (l : List ℕ) → Free (reduce l)

@@ -10,8 +10,9 @@ use lib.ListN.{length}
 use Rattle.roles.specs.Sets.{mostRoles, single, Below}
 use Rattle.meaning.specs.Events.{known, agrees, Effect, Reached, HolderSet, Possible, Verdict, Decides, AskAbout, Reply}
 use Rattle.meaning.specs.Lists.{Mem, Ascending, put}
-use Rattle.meaning.specs.Rows.{Row, blank, Leaves, Good, mostOpens, fits, hasProperPart, apart, reduce, giving, contradicts, step, settle, Settles, rowAfter, Recorded, decide}
+use Rattle.meaning.specs.Rows.{Row, blank, Leaves, Free, Good, mostOpens, fits, hasProperPart, apart, reduce, added, giving, contradicts, step, settle, Settles, rowAfter, Recorded, decide}
 use Rattle.meaning.proofs.OpenLaws as opens
+use Rattle.meaning.proofs.Adding as adding
 use Rattle.meaning.proofs.Steps as steps
 use Rattle.meaning.proofs.Kept as kept
 use Rattle.meaning.proofs.Verdicts as verdicts
@@ -142,6 +143,13 @@ reduce-law = opens.reduce-law
 
 pub reduce-ascending : (l : List ℕ) → Ascending (reduce l)
 reduce-ascending = opens.reduce-ascending
+
+-- sets of which none is part of another are left as they are, and of one set more only that one need be held against each
+pub free-reduced : (l : List ℕ) → Free l → reduce l ≡ l
+free-reduced = opens.free-reduced
+
+pub reduce-one : (x : ℕ) (l : List ℕ) → Free l → reduce (x ∷ l) ≡ added x l
+reduce-one = adding.reduce-one
 
 -- ---- examples
 

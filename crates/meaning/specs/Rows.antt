@@ -1,16 +1,16 @@
 -- A row: what is kept of one permission, which holder sets it leaves possible, and the steps that keep it so.
 --     Row, blank           the denied set and the open sets; a permission without a row has neither
 --     Leaves n w h         the row leaves the holder set h possible
---     Free l               sets of which none is part of another, ascending
+--     Free l               sets that are free of parts: none is part of another; ascending
 --     Good n w             the layout rules for the sets of a row; how many there may be, and that a row says something, comes with the area
 --     mostOpens, fits w    a row has room for 15 open sets
 --     hasPart s l          some set of the list is part of s
 --     hasProperPart s l    some set of the list is part of s, and not s itself
 --     losing s l           the sets of the list, each without s
 --     apart u l            the sets of the list that share no role with u
---     sharing s l          s shares a role with some set of the list
+--     sharesSome s l       s shares a role with some set of the list
 --     reduce l             the sets of the list that have no other of it as a proper part, each once, ascending
---     added x l            what reducing leaves of one set more beside sets that are free of parts: only x is held against each
+--     added x l            one set more: l, if one of l is part of x; else x in its place, and those go that have it as a part
 --     denying, allowing, clearing, giving, withdrawing    the steps, over plain sets
 --     contradicts e w      an allow on a set that is all denied, or a deny on a set of which an open set is part
 --     step e w             the row after the event
@@ -83,13 +83,12 @@ losing s l = map (λ o. without o s) l
 unfoldable pub apart : ℕ → List ℕ → List ℕ
 apart u l = keep (λ o. not (shares o u)) l
 
-unfoldable pub sharing : ℕ → List ℕ → Bool
-sharing s l = any (shares s) l
+unfoldable pub sharesSome : ℕ → List ℕ → Bool
+sharesSome s l = any (shares s) l
 
 unfoldable pub reduce : List ℕ → List ℕ
 reduce l = inOrder (keep (λ o. not (hasProperPart o l)) l)
 
--- l itself where one of it is part of x; else x in its place beside those of which x is no part
 unfoldable pub added : ℕ → List ℕ → List ℕ
 added x l = cond (hasPart x l) l (put x (keep (λ o. not (partOf x o)) l))
 

@@ -11,7 +11,7 @@ use Rattle.roles.proofs.Tests.{T-and}
 use Rattle.roles.proofs.Laws.{partOf-le, leb-allBelow}
 use Rattle.meaning.specs.Lists.{Mem, Ascending}
 use Rattle.meaning.specs.Rows.{Good}
-use Rattle.meaning.proofs.OpenLaws.{free-none}
+use Rattle.meaning.proofs.OpenLaws.{free-empty}
 use Rattle.meaning.proofs.ListLaws.{none-law}
 use Rattle.opens.specs.Opens.{allOf, belowFirst, openRules, opensGood}
 
@@ -48,7 +48,7 @@ module _ (n d : ℕ) where
   pub opensGood-law : (l : List ℕ) → d < 2 ^ n → T (opensGood (allBelow n) d l) ↔ Good n (record { denied = d; opens = l })
   unfolding opensGood
   opensGood-law [] b = (
-    (λ h. record { denied-below = b; below = λ o m. absurd m; nonempty = λ o m. absurd m; apart-from-denied = λ o m. absurd m; free = free-none }),
+    (λ h. record { denied-below = b; below = λ o m. absurd m; nonempty = λ o m. absurd m; apart-from-denied = λ o m. absurd m; free = free-empty }),
     λ g. tt,
   )
   opensGood-law (o ∷ l) b = (

@@ -1,9 +1,9 @@
 -- The values of the code as the rows of `meaning`, and back.
 --     held l               the open sets that `l` holds: its first `count` places
---     places               one place more than a row may hold, for a step's open set too many
+--     places               one place more than a row may hold: a step can make one open set too many
 --     padded k, stored k   the open sets of the list k in the first places, zeros behind them
 --     Tidy m l             `l` is so stored, with at most m open sets
---     Proper l             `l` is so stored with at most 15 open sets, of which none is part of another
+--     Proper l             `l` is so stored, with at most 15 open sets, ascending, none part of another
 --     rowOf, storedRow     the same for a row
 --     answerNumber, decidedOf    the number of each answer, and the decision of each verdict: Rules, Answers
 --     Gives t r            `r` is the answer and the row of t
