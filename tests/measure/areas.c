@@ -72,6 +72,8 @@ static uint64_t open_set(unsigned k, enum kind kind)
         return role(MOST_OPENS + k) | role(MOST_OPENS - 1 - k);
     case CROSSED:
         return crossed(k);
+    case STAR:
+        return role(0) | role(k + 1);
     default:
         return role(k);
     }

@@ -19,8 +19,9 @@ enum {
  * PAIRS: the open sets are all pairs of few roles, so no set has a role of its own.
  * TURNED: each open set has two roles of its own; without the upper ones the sets stand in falling order.
  * CROSSED: two neighbours together have all roles of the sets before them, an even number of sets from the last on.
+ * STAR: all open sets have their lowest role in common, so an allow on it takes the place of all.
  * LONG: each open set has all roles but one, and nothing is denied: sets that are long in print. */
-enum kind { OWN, PAIRS, TURNED, CROSSED, LONG };
+enum kind { OWN, PAIRS, TURNED, CROSSED, STAR, LONG };
 
 /* Roles that no filled row denies and, but for LONG, no open set has: one below, one above those of all open sets. */
 #define LOWEST_ROLE 0

@@ -1,5 +1,5 @@
 /* Repeats one call of the archive on an area of a known fill, which is put back before each call:
- *     measure CALL ROWS OPENS own|pairs|turned|crossed|long TIMES
+ *     measure CALL ROWS OPENS own|pairs|turned|crossed|star|long TIMES
  * prints the last answer. Two runs that differ by one call give the cost of that call and of putting back. */
 #include "../yardstick/yardstick.h"
 #include "areas.h"
@@ -227,7 +227,7 @@ static unsigned number(const char *text, unsigned most)
 static enum kind kind_named(const char *name)
 {
     static const char *const names[] = {
-        [OWN] = "own", [PAIRS] = "pairs", [TURNED] = "turned", [CROSSED] = "crossed", [LONG] = "long"};
+        [OWN] = "own", [PAIRS] = "pairs", [TURNED] = "turned", [CROSSED] = "crossed", [STAR] = "star", [LONG] = "long"};
     for (enum kind kind = OWN; kind <= LONG; kind++)
         if (strcmp(name, names[kind]) == 0)
             return kind;
@@ -237,7 +237,7 @@ static enum kind kind_named(const char *name)
 int main(int argc, char **argv)
 {
     if (argc != 6)
-        stop("usage: measure CALL ROWS OPENS own|pairs|turned|crossed|long TIMES");
+        stop("usage: measure CALL ROWS OPENS own|pairs|turned|crossed|star|long TIMES");
     const struct call *call = NULL;
     for (size_t k = 0; k < sizeof calls / sizeof calls[0]; k++)
         if (strcmp(argv[1], calls[k].name) == 0)

@@ -171,7 +171,7 @@ static void filled_streams(void)
     group("streams on filled areas");
     for (size_t r = 0; r < sizeof rows / sizeof rows[0]; r++)
         for (size_t o = 0; o < sizeof opens / sizeof opens[0]; o++)
-            for (enum kind kind = OWN; kind <= CROSSED; kind++) {
+            for (enum kind kind = OWN; kind <= STAR; kind++) {
                 fill(area, rows[r], opens[o], kind);
                 memcpy(other, area, AREA_BYTES);
                 struct style style = {64, 2 * rows[r] + 2, 1 + (unsigned)any_below(3), 5};
