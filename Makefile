@@ -39,7 +39,7 @@ help:
 	@echo '                both take PREFIX=$(PREFIX), bindir, libdir, libexecdir, includedir, mandir, pkgconfigdir'
 	@echo '                and DESTDIR, which stands before each and is written into no file'
 	@echo 'make example    builds and runs examples/gateway.c'
-	@echo 'make check      every proof and test, as bash .ci/run; needs rt, takes 10 to 25 minutes'
+	@echo 'make check      every proof and test, as bash .ci/run; needs rt, takes 10 to 30 minutes'
 	@echo 'make clean      takes away all that was built, the proofs too'
 
 lib: $(archive)

@@ -12,7 +12,7 @@ use Rattle.roles.proofs.Laws.{partOf-trans, partOf-antisym, partOf-le}
 use Rattle.meaning.specs.Lists.{Mem, keep, put}
 use Rattle.meaning.specs.Rows.{Free, hasPart, reduce, added}
 use Rattle.meaning.proofs.ListLaws.{keep-law, keep-ascending, keep-all, keep-snoc, put-law, put-ascending, put-below, put-last, mem-snoc, ascending-ext}
-use Rattle.meaning.proofs.OpenLaws.{hasPart-law, noPart-law, none⇒noPart, reduce-least, reduce-ascending}
+use Rattle.meaning.proofs.OpenLaws.{hasPart-law, noPart-law, reduce-least, reduce-ascending}
 
 -- the sets of which x is no part
 abbrev others : ℕ → List ℕ → List ℕ
@@ -31,7 +31,7 @@ module _ (x : ℕ) (l : List ℕ) where
 
   -- where x is part of none either, all stay
   pub added-beside : ((o : ℕ) → Mem o l → ¬ (T (partOf o x))) → ((o : ℕ) → Mem o l → ¬ (T (partOf x o))) → added x l ≡ put x l
-  added-beside f g = added-new (none⇒noPart x l f) ∙ ap (put x) (keep-all (λ o. not (partOf x o)) l (λ o m. not-T (partOf x o) (g o m)))
+  added-beside f g = added-new (noPart-law x l .1 (λ o m. not-T (partOf o x) (f o m))) ∙ ap (put x) (keep-all (λ o. not (partOf x o)) l (λ o m. not-T (partOf x o) (g o m)))
 
 -- ---- reduce, with one set more
 
@@ -79,7 +79,7 @@ module _ (x : ℕ) (l : List ℕ) (f : Free l) where
             inl e,
             λ o n u. ⊎-elim
                 (λ q. q ∙ sym e)
-                (λ k. absurd (T-not (partOf o x) (noPart-law x l t o k) (subst (λ (z : ℕ). T (partOf o z)) e u)))
+                (λ k. absurd (T-not (partOf o x) (noPart-law x l .0 t o k) (subst (λ (z : ℕ). T (partOf o z)) e u)))
                 n,
           ))
           (λ k. let q = keep-law (λ o. not (partOf x o)) l y .0 k in old y (q .0) (λ u. absurd (T-not (partOf x y) (q .1) u)))
@@ -95,15 +95,15 @@ module _ (x : ℕ) (l : List ℕ) (t : T (not (hasPart x l))) where
   -- beside sets that are all below it x comes last
   pub added-last : ((y : ℕ) → Mem y l → y < x) → added x l ≡ l ++ x ∷ []
   added-last b =
-      added-beside x l (λ o m. T-not (partOf o x) (noPart-law x l t o m)) (λ o m u. let lt = b o m in let le = partOf-le x o u in absurd (let z : ⊥ = omega arith in z))
+      added-beside x l (λ o m. T-not (partOf o x) (noPart-law x l .0 t o m)) (λ o m u. let lt = b o m in let le = partOf-le x o u in absurd (let z : ⊥ = omega arith in z))
       ∙ put-last x l b
 
   -- a set above x behind the others goes where x is part of it, and else stays
   module _ (o : ℕ) (h : x < o) where
     pub noPart-above : T (not (hasPart x (l ++ o ∷ [])))
-    noPart-above = none⇒noPart x (l ++ o ∷ []) (λ y m. ⊎-elim
-        (λ k. T-not (partOf y x) (noPart-law x l t y k))
-        (λ e u. let le = partOf-le y x u in absurd (let z : ⊥ = omega arith in z))
+    noPart-above = noPart-law x (l ++ o ∷ []) .1 (λ y m. ⊎-elim
+        (λ k. noPart-law x l .0 t y k)
+        (λ e. not-T (partOf y x) (λ u. let le = partOf-le y x u in absurd (let z : ⊥ = omega arith in z)))
         (mem-snoc l o y .0 m))
 
     next : (b : Bool) → partOf x o ≡ b → added x (l ++ o ∷ []) ≡ put x (others x l ++ cond (not b) (o ∷ []) [])

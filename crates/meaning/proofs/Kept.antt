@@ -65,7 +65,7 @@ module _ (n : ℕ) (w : Row) (g : Good n w) where
       reduced-good n (joined d s) (losing s (w .opens)) (joined-below n d s (g .denied-below) b) (λ o m.
       let q = losing-law s (w .opens) o .0 m in
       let x = q .0 in
-      let rest = rest-fit n x s (g .below x (q .1)) (noPart-law s (w .opens) t x (q .1)) in
+      let rest = rest-fit n x s (g .below x (q .1)) (noPart-law s (w .opens) .0 t x (q .1)) in
       subst⁻¹ (Fit n (joined d s)) (q .2) (record {
         below = rest .below;
         nonempty = rest .nonempty;

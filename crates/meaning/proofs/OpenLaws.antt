@@ -21,13 +21,9 @@ pub hasPart-law : (s : ℕ) (l : List ℕ) → T (hasPart s l) ↔ ((o : ℕ) ×
 unfolding hasPart
 hasPart-law s l = any-law (λ o. partOf o s) l
 
-pub noPart-law : (s : ℕ) (l : List ℕ) → T (not (hasPart s l)) → (o : ℕ) → Mem o l → T (not (partOf o s))
+pub noPart-law : (s : ℕ) (l : List ℕ) → T (not (hasPart s l)) ↔ ((o : ℕ) → Mem o l → T (not (partOf o s)))
 unfolding hasPart
-noPart-law s l = none-law (λ o. partOf o s) l .0
-
-pub none⇒noPart : (s : ℕ) (l : List ℕ) → ((o : ℕ) → Mem o l → ¬ (T (partOf o s))) → T (not (hasPart s l))
-unfolding hasPart
-none⇒noPart s l f = none-law (λ o. partOf o s) l .1 (λ o m. not-T (partOf o s) (f o m))
+noPart-law s l = none-law (λ o. partOf o s) l
 
 properPart-law : (o s : ℕ) → T (partOf o s && not (eqb o s)) ↔ (T (partOf o s) × (o ≢ s))
 properPart-law o s = (
@@ -198,7 +194,7 @@ module _ (l : List ℕ) (x : ℕ) where
       (ascending-snoc (reduce l) x (reduce-ascending l) below) (λ y. (to y, from y))
     where
       none : (o : ℕ) → Mem o l → ¬ (T (partOf o x))
-      none o m u = let p = reduce-part l o m in T-not (partOf (p .0) x) (noPart-law x (reduce l) t (p .0) (p .1)) (partOf-trans (p .0) o x (p .2) u)
+      none o m u = let p = reduce-part l o m in T-not (partOf (p .0) x) (noPart-law x (reduce l) .0 t (p .0) (p .1)) (partOf-trans (p .0) o x (p .2) u)
 
       below : (y : ℕ) → Mem y (reduce l) → y < x
       below y m =

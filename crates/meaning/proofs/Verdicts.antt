@@ -48,7 +48,7 @@ module _ (n : ℕ) (w : Row) (g : Good n w) where
       record {
         holder = without-below n (largest n w) s (largest-left .holder);
         denies = λ k. let p = shares-law h (w .denied) .0 k in largest-left .denies (shares-at (largest n w) (w .denied) (p .0) (in-without (largest n w) s (p .0) .0 (p .1) .0) (p .2));
-        meets = λ o m. let p = notPart-law o s (noPart-law s (w .opens) t o m) in
+        meets = λ o m. let p = notPart-law o s (noPart-law s (w .opens) .0 t o m) in
             shares-at h o (p .0) (in-without (largest n w) s (p .0) .1 (open-in-largest o (p .0) m (p .1), p .2)) (p .1);
       }
 

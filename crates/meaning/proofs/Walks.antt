@@ -46,3 +46,7 @@ module _ (p : ℕ → Bool) (l : List ℕ) (i j : ℕ) (s : j ≡ i + 1) (h : i 
 
   pub any-miss-back : p (getD l i 0) ≡ false → any p (take i l) ≡ any p l
   any-miss-back q = sym (any-before ∙ ap (λ (b : Bool). any p (take i l) || (b || false)) q ∙ or-false (any p (take i l)))
+
+pub any-end-back : (p : ℕ → Bool) (l : List ℕ) (i : ℕ) → i ≡ 0 → any p (take i l) ≡ any p l → false ≡ any p l
+unfolding any
+any-end-back p l i z e = sym (ap (λ (n : ℕ). any p (take n l)) z) ∙ e
