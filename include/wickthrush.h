@@ -42,8 +42,8 @@ extern "C" {
 #endif
 
 #define WICKTHRUSH_VERSION_MAJOR 0
-#define WICKTHRUSH_VERSION_MINOR 3
-#define WICKTHRUSH_VERSION_PATCH 2
+#define WICKTHRUSH_VERSION_MINOR 4
+#define WICKTHRUSH_VERSION_PATCH 0
 
 /* The bytes of the lent area. */
 #define WICKTHRUSH_AREA_BYTES 18448
@@ -59,9 +59,13 @@ extern "C" {
 /* No role, as wickthrush_decide gives it with every answer but undecided. It is no bit of a set: do not shift by it. */
 #define WICKTHRUSH_NO_ROLE 64
 
-enum wickthrush_verdict { WICKTHRUSH_REPLY_DENY = 0, WICKTHRUSH_REPLY_ALLOW = 1 };
-
-enum wickthrush_kind { WICKTHRUSH_WITHDRAWN = 0, WICKTHRUSH_GIVEN = 1 };
+/* The kinds of event, each with the number that goes beside it in wickthrush_event. */
+enum wickthrush_kind {
+    WICKTHRUSH_REPLY_DENY = 0,  /* the role set of the session that was refused */
+    WICKTHRUSH_REPLY_ALLOW = 1, /* the role set of the session that was allowed */
+    WICKTHRUSH_WITHDRAWN = 2,   /* the role that the permission was withdrawn from */
+    WICKTHRUSH_GIVEN = 3        /* the role that the permission was given to */
+};
 
 enum wickthrush_answer {
     WICKTHRUSH_RECORDED = 0,
@@ -112,31 +116,25 @@ WICKTHRUSH_MUST_USE static inline const char *wickthrush_answer_name(uint32_t an
  */
 WICKTHRUSH_MUST_USE uint32_t wickthrush_open(uint8_t *area, size_t len, uint64_t role_count);
 
-/* Takes a reply about a session with the roles of set. It is taken as true at the moment of the call.
+/* Takes an event about the permission: a reply of the decision point, or a policy update. Every event comes in by this
+ * call, in the order in which the decision point sent them: keep one queue, so that none overtakes another. A reply is
+ * taken as true at the moment of the call.
  *
- * WICKTHRUSH_RECORDED       the area has what was known before and the reply
+ * kind says what happened. For a reply number is the role set of the session: its bit of weight 2^r for role r. For an
+ * update it is one role, as itself: role 5 is 5. Both are whole 64-bit numbers; no bit of them is left out of account.
+ *
+ * WICKTHRUSH_RECORDED       the area has the event and what was known before, as far as it still holds
  * WICKTHRUSH_BAD_AREA       len is wrong or the bytes are no area; area unchanged
  * WICKTHRUSH_NO_PERMISSION  permission is 0; area unchanged
- * WICKTHRUSH_BAD_VERDICT    verdict is neither 0 (deny) nor 1 (allow); area unchanged
- * WICKTHRUSH_UNKNOWN_ROLE   set has a role at or above the role count; area unchanged
- * WICKTHRUSH_CONTRADICTION  no assignment that was possible agrees with the reply; area unchanged
- * WICKTHRUSH_FULL           the permission's new row has no room; area unchanged
+ * WICKTHRUSH_BAD_VERDICT    kind is none of the four; area unchanged
+ * WICKTHRUSH_UNKNOWN_ROLE   the set has a role at or above the role count, or the role is; area unchanged
+ * WICKTHRUSH_CONTRADICTION  a reply that no assignment that was possible agrees with; area unchanged
+ * WICKTHRUSH_FULL           a reply, and the permission's new row has no room; area unchanged
+ * WICKTHRUSH_FORGOTTEN      an update, and the permission's new row has no room: nothing is known of this permission
+ *                           any more, everything else in the area stays
  */
-WICKTHRUSH_MUST_USE uint32_t wickthrush_reply(uint8_t *area, size_t len, uint32_t permission, uint64_t verdict,
-                                              uint64_t set);
-
-/* Takes a policy update: the permission was given to the role or withdrawn from it.
- *
- * WICKTHRUSH_RECORDED       the area has what still holds after the update, and the update
- * WICKTHRUSH_BAD_AREA       len is wrong or the bytes are no area; area unchanged
- * WICKTHRUSH_NO_PERMISSION  permission is 0; area unchanged
- * WICKTHRUSH_BAD_VERDICT    kind is neither 0 (withdrawn) nor 1 (given); area unchanged
- * WICKTHRUSH_UNKNOWN_ROLE   role is at or above the role count; area unchanged
- * WICKTHRUSH_FORGOTTEN      the permission's new row has no room; nothing is known of this permission any more,
- *                           everything else in the area stays
- */
-WICKTHRUSH_MUST_USE uint32_t wickthrush_update(uint8_t *area, size_t len, uint32_t permission, uint64_t kind,
-                                               uint64_t role);
+WICKTHRUSH_MUST_USE uint32_t wickthrush_event(uint8_t *area, size_t len, uint32_t permission, uint64_t kind,
+                                              uint64_t number);
 
 /* What wickthrush_decide gives: one of its answers, and the role to ask about where that is WICKTHRUSH_UNDECIDED. */
 typedef struct {
@@ -196,7 +194,7 @@ WICKTHRUSH_MUST_USE wickthrush_written wickthrush_print_open(const uint8_t *area
  * WICKTHRUSH_SHORT_BUFFER  out_len is below WICKTHRUSH_PRINT_BYTES; out unchanged
  *
  * The O line and then the lines of row 0, 1, 2 and so on, up to WICKTHRUSH_NO_SUCH_ROW, are input for wickthrush(1).
- * Taken by a fresh cache, as wickthrush_open for the O line, wickthrush_reply for each D and A, all are answered
+ * Taken by a fresh cache, as wickthrush_open for the O line, wickthrush_event for each D and A, all are answered
  * WICKTHRUSH_RECORDED and give an area of the same bytes, if no call has changed the area between them.
  */
 WICKTHRUSH_MUST_USE wickthrush_written wickthrush_print_row(const uint8_t *area, size_t len, uint64_t row, uint8_t *out,

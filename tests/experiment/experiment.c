@@ -118,7 +118,8 @@ static void start(const struct setup *setup)
 /* Whether the reply was refused for want of room. */
 static bool feed(uint8_t *area, uint32_t permission, bool allowed, uint64_t set)
 {
-    uint32_t answer = wickthrush_reply(area, WICKTHRUSH_AREA_BYTES, permission, allowed, set);
+    enum wickthrush_kind kind = allowed ? WICKTHRUSH_REPLY_ALLOW : WICKTHRUSH_REPLY_DENY;
+    uint32_t answer = wickthrush_event(area, WICKTHRUSH_AREA_BYTES, permission, kind, set);
     if (answer != WICKTHRUSH_RECORDED && answer != WICKTHRUSH_FULL)
         stop("a reply has another answer than recorded or full");
     return answer == WICKTHRUSH_FULL;

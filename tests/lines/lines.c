@@ -466,7 +466,7 @@ static void speed(void)
            full, few ? " (times under an emulator say nothing)" : "");
 }
 
-/* 5 is out of reach of a line: its letter is its verdict. */
+/* 5 is out of reach of a line: its letter is its kind. */
 static void every_answer(void)
 {
     group("every answer but 5 came up, and every role behind 12");

@@ -194,17 +194,24 @@ static uint32_t ask_open(struct reader *reader, const struct line *line)
     return second_open(&reader->second, SECOND_BYTES, opens(line) && n > SECOND_ROLES ? SECOND_ROLES : n);
 }
 
+static uint64_t kind_of(const struct line *line)
+{
+    switch (line->letter) {
+    case 'D': return SECOND_DENY;
+    case 'A': return SECOND_ALLOW;
+    case 'R': return SECOND_WITHDRAWN;
+    default: return SECOND_GIVEN;
+    }
+}
+
 /* An event on a set with a role at or above n is one on such a role of the second program. */
 static uint32_t ask_event(struct reader *reader, const struct line *line)
 {
     const struct groups *groups = groups_of(reader, line->number);
     bool known = below(line->set, reader->n);
-    uint64_t near = known ? inside(groups, line->set) : UINT64_C(1) << reader->second.n;
-    uint32_t permission = (uint32_t)line->number;
-    if (line->letter == 'A' || line->letter == 'D')
-        return second_reply(&reader->second, SECOND_BYTES, permission, line->letter == 'A', near);
-    uint64_t role = near ? (uint64_t)__builtin_ctzll(near) : 0;
-    return second_update(&reader->second, SECOND_BYTES, permission, line->letter == 'G', role);
+    uint64_t kind = kind_of(line), near = known ? inside(groups, line->set) : UINT64_C(1) << reader->second.n;
+    return second_event(&reader->second, SECOND_BYTES, (uint32_t)line->number, kind,
+                        kind < SECOND_WITHDRAWN ? near : second_lowest(near));
 }
 
 /* A session may cut through groups. It's allowed if the groups in it are; it's denied if all that it touches are. */

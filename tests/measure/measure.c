@@ -22,11 +22,8 @@ bool CHECK(const uint8_t *area, size_t len);
 #ifdef DECIDE
 struct yardstick_decided DECIDE(const uint8_t *area, size_t len, uint32_t permission, uint64_t set);
 #endif
-#ifdef REPLY
-uint32_t REPLY(uint8_t *area, size_t len, uint32_t permission, uint64_t verdict, uint64_t set);
-#endif
-#ifdef UPDATE
-uint32_t UPDATE(uint8_t *area, size_t len, uint32_t permission, uint64_t kind, uint64_t role);
+#ifdef EVENT
+uint32_t EVENT(uint8_t *area, size_t len, uint32_t permission, uint64_t kind, uint64_t number);
 #endif
 #ifdef PRINT_OPEN
 struct written PRINT_OPEN(const uint8_t *area, size_t len, uint8_t *out, size_t out_len);
@@ -78,15 +75,15 @@ static struct yardstick_decided decide(void)
 }
 #endif
 
-#ifdef REPLY
+#ifdef EVENT
 static uint32_t deny(uint64_t set)
 {
-    return REPLY(area, AREA_BYTES, permission, 0, set);
+    return EVENT(area, AREA_BYTES, permission, YARDSTICK_DENY, set);
 }
 
 static uint32_t allow(uint64_t set)
 {
-    return REPLY(area, AREA_BYTES, permission, 1, set);
+    return EVENT(area, AREA_BYTES, permission, YARDSTICK_ALLOW, set);
 }
 
 /* What is known already. */
@@ -126,20 +123,18 @@ static uint32_t allow_last(void)
 /* A permission before all others: every row moves. */
 static uint32_t new_row(void)
 {
-    return REPLY(area, AREA_BYTES, permission_of(0) - 1, 0, UINT64_C(1) << FREE_ROLE);
+    return EVENT(area, AREA_BYTES, permission_of(0) - 1, YARDSTICK_DENY, UINT64_C(1) << FREE_ROLE);
 }
-#endif
 
-#ifdef UPDATE
 /* The lowest role of the first open set: of pairs every set that has it goes. */
 static uint32_t withdrawn(void)
 {
-    return UPDATE(area, AREA_BYTES, permission, 0, first_role);
+    return EVENT(area, AREA_BYTES, permission, YARDSTICK_WITHDRAWN, first_role);
 }
 
 static uint32_t given(void)
 {
-    return UPDATE(area, AREA_BYTES, permission, 1, first_role);
+    return EVENT(area, AREA_BYTES, permission, YARDSTICK_GIVEN, first_role);
 }
 #endif
 
@@ -185,7 +180,7 @@ static const struct call {
 #ifdef DECIDE
     {"decide", NULL, decide, NULL},
 #endif
-#ifdef REPLY
+#ifdef EVENT
     {"reply-deny", reply_deny, NULL, NULL},
     {"reply-allow", reply_allow, NULL, NULL},
     {"deny-strikes", deny_strikes, NULL, NULL},
@@ -193,8 +188,6 @@ static const struct call {
     {"allow-first", allow_first, NULL, NULL},
     {"allow-last", allow_last, NULL, NULL},
     {"new-row", new_row, NULL, NULL},
-#endif
-#ifdef UPDATE
     {"withdrawn", withdrawn, NULL, NULL},
     {"given", given, NULL, NULL},
 #endif

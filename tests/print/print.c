@@ -151,8 +151,8 @@ static uint32_t hand_over(const uint8_t *at, size_t count)
     struct line line = read_line(at, count);
     switch (line.letter) {
     case 'O': return wickthrush_open(spare, BYTES, line.number);
-    case 'D': return wickthrush_reply(spare, BYTES, (uint32_t)line.number, 0, line.set);
-    case 'A': return wickthrush_reply(spare, BYTES, (uint32_t)line.number, 1, line.set);
+    case 'D': return wickthrush_event(spare, BYTES, (uint32_t)line.number, SECOND_DENY, line.set);
+    case 'A': return wickthrush_event(spare, BYTES, (uint32_t)line.number, SECOND_ALLOW, line.set);
     default: return 9;
     }
 }
@@ -279,13 +279,14 @@ static void random_area(uint64_t n)
         uint32_t permission = any_permission(permissions), answer;
         uint64_t dice = any_below(20);
         if (dice < 2)
-            answer = wickthrush_update(area, BYTES, permission, any_below(2), any_below(n));
+            answer = wickthrush_event(area, BYTES, permission, SECOND_WITHDRAWN + any_below(2), any_below(n));
         else if (dice < 3)
             answer = wickthrush_forget(area, BYTES, permission);
         else if (pairs && dice < 19)
-            answer = wickthrush_reply(area, BYTES, permission, 1, BIT(any_below(n)) | BIT(any_below(n)));
+            answer = wickthrush_event(area, BYTES, permission, SECOND_ALLOW, BIT(any_below(n)) | BIT(any_below(n)));
         else
-            answer = wickthrush_reply(area, BYTES, permission, allows ? dice > 4 : dice > 11, any_set(n));
+            answer = wickthrush_event(area, BYTES, permission, dice > (allows ? 4 : 11) ? SECOND_ALLOW : SECOND_DENY,
+                                      any_set(n));
         check(answer == 0 || (answer >= 6 && answer <= 8), "the stream is answered %lu", (unsigned long)answer);
     }
     look();

@@ -8,15 +8,20 @@
 
 enum { BYTES = WICKTHRUSH_AREA_BYTES, ANSWERS = 13 };
 
-enum what { OPEN, REPLY, UPDATE, FORGET };
+enum what { OPEN, EVENT, FORGET };
 
-/* One call; kind is a verdict or an update kind, number a role count, a set or a role. */
+/* One call; kind is an event's, number a role count, a set or a role. */
 struct call {
     enum what what;
     size_t len;
     uint32_t permission;
     uint64_t kind, number;
 };
+
+static bool is_reply(const struct call *c)
+{
+    return c->what == EVENT && c->kind < SECOND_WITHDRAWN;
+}
 
 /* The same history on both sides. */
 struct pair {
@@ -30,8 +35,7 @@ static uint32_t ask_library(uint8_t *area, const struct call *c)
 {
     switch (c->what) {
     case OPEN: return wickthrush_open(area, c->len, c->number);
-    case REPLY: return wickthrush_reply(area, c->len, c->permission, c->kind, c->number);
-    case UPDATE: return wickthrush_update(area, c->len, c->permission, c->kind, c->number);
+    case EVENT: return wickthrush_event(area, c->len, c->permission, c->kind, c->number);
     default: return wickthrush_forget(area, c->len, c->permission);
     }
 }
@@ -40,8 +44,7 @@ static uint32_t ask_second(struct second *second, const struct call *c)
 {
     switch (c->what) {
     case OPEN: return second_open(second, c->len, c->number);
-    case REPLY: return second_reply(second, c->len, c->permission, c->kind, c->number);
-    case UPDATE: return second_update(second, c->len, c->permission, c->kind, c->number);
+    case EVENT: return second_event(second, c->len, c->permission, c->kind, c->number);
     default: return second_forget(second, c->len, c->permission);
     }
 }
@@ -109,9 +112,9 @@ static bool nth_call(uint64_t n, uint32_t permission, uint64_t i, struct call *c
     uint64_t sets = UINT64_C(1) << n;
     *c = (struct call){FORGET, BYTES, permission, 0, 0};
     if (i < 2 * sets)
-        *c = (struct call){REPLY, BYTES, permission, i / sets, i % sets};
+        *c = (struct call){EVENT, BYTES, permission, SECOND_DENY + i / sets, i % sets};
     else if (i < 2 * sets + 2 * n)
-        *c = (struct call){UPDATE, BYTES, permission, (i - 2 * sets) / n, (i - 2 * sets) % n};
+        *c = (struct call){EVENT, BYTES, permission, SECOND_WITHDRAWN + (i - 2 * sets) / n, (i - 2 * sets) % n};
     return i <= 2 * sets + 2 * n;
 }
 
@@ -206,33 +209,8 @@ static void every_knowledge(void)
 
 /* ---- random streams */
 
-static const uint64_t odd_kinds[] = {2,
-                                     3,
-                                     10,
-                                     255,
-                                     256,
-                                     257,
-                                     65537,
-                                     UINT64_C(1) << 32,
-                                     (UINT64_C(1) << 32) + 1,
-                                     UINT64_C(1) << 63,
-                                     UINT64_MAX - 1,
-                                     UINT64_MAX};
 static const uint64_t odd_counts[] = {
     0, 65, 66, 255, 257, 65539, UINT64_C(1) << 32, (UINT64_C(1) << 32) + 3, UINT64_C(1) << 63, UINT64_MAX};
-static const uint64_t odd_roles[] = {6,
-                                     7,
-                                     63,
-                                     64,
-                                     65,
-                                     255,
-                                     256,
-                                     257,
-                                     UINT64_C(1) << 32,
-                                     (UINT64_C(1) << 32) + 1,
-                                     UINT64_C(1) << 40,
-                                     UINT64_C(1) << 63,
-                                     UINT64_MAX};
 static const size_t odd_lengths[] = {
     0, 1, BYTES - 8, BYTES - 1, BYTES + 1, BYTES + 8, 2 * BYTES, ((size_t)1 << 32) + BYTES, SIZE_MAX};
 
@@ -282,36 +260,49 @@ static uint64_t odd_set(uint64_t n)
     }
 }
 
+/* Kinds and roles at or above a bound; half of them would be below it if their upper bits were lost. */
+static uint64_t beyond(uint64_t bound)
+{
+    static const unsigned bits[] = {3, 6, 8, 16, 32, 63};
+    switch (any_below(8)) {
+    case 0: return bound;
+    case 1: return bound + 1;
+    case 2: return any_below(2) ? 63 : UINT64_MAX;
+    case 3: return any() | UINT64_C(1) << 40;
+    default: return (UINT64_C(1) << ANY_OF(bits)) + any_below(bound);
+    }
+}
+
 static struct call any_call(const struct style *style, uint64_t n)
 {
-    struct call c = {.what = REPLY, .len = BYTES};
+    struct call c = {.what = EVENT, .len = BYTES};
     c.permission = style->permission[any_below(style->permissions)];
-    c.kind = any_below(2);
+    c.kind = SECOND_DENY + any_below(2);
     c.number = any_set(n);
     uint64_t dice = any_below(100);
     if (dice < style->updates) {
-        c.what = UPDATE;
+        c.kind = SECOND_WITHDRAWN + any_below(2);
         c.number = any_below(n);
     } else if (dice < style->updates + style->forgets) {
         c.what = FORGET;
     } else if (style->triples && any_below(8)) {
-        c.kind = 1;
+        c.kind = SECOND_ALLOW;
         c.number = any_triple(n);
     }
     return c;
 }
 
-/* Makes one argument or several odd. */
+/* Makes one argument or several odd. A kind by itself puts a set where a role belongs, or a role where a set does. */
 static void spoil(struct call *c, uint64_t n)
 {
     do {
         switch (any_below(8)) {
         case 0: c->len = ANY_OF(odd_lengths); break;
         case 1: c->permission = 0; break;
-        case 2:
-        case 3: c->kind = ANY_OF(odd_kinds); break;
+        case 2: c->kind = beyond(SECOND_KINDS); break;
+        case 3: c->kind = any_below(SECOND_KINDS); break;
         case 4: *c = (struct call){OPEN, BYTES, 0, 0, ANY_OF(odd_counts)}; break;
-        default: c->number = c->what == REPLY ? odd_set(n) : c->what == UPDATE ? ANY_OF(odd_roles) : 0;
+        default: c->number = c->what == OPEN ? 0 : any_below(2) ? odd_set(n) : beyond(n);
         }
     } while (any_below(2));
 }
@@ -456,10 +447,11 @@ static void far_roles(void)
         for (unsigned i = 1; i <= 80; i++) {
             struct call c = any_call(&style, SECOND_ROLES);
             uint32_t expected = ask_second(&second, &c);
-            c.number = c.what == UPDATE ? to.role[c.number] : renamed(&to, c.number);
+            if (c.what == EVENT)
+                c.number = is_reply(&c) ? renamed(&to, c.number) : to.role[c.number];
             uint32_t answer = ask_library(area, &c);
-            check(answer == expected, "far call %d: %lu instead of %lu", (int)c.what, (unsigned long)answer,
-                  (unsigned long)expected);
+            check(answer == expected, "far call %d, kind %llu: %lu instead of %lu", (int)c.what,
+                  (unsigned long long)c.kind, (unsigned long)answer, (unsigned long)expected);
             if (i % 20 == 0)
                 for (size_t k = 0; k < style.permissions; k++)
                     far_sessions(&second, area, &to, style.permission[k]);
@@ -472,7 +464,7 @@ static void far_roles(void)
 
 enum { MOST_CALLS = 200 };
 
-/* A random stream of replies and updates in which every answer is 0. */
+/* A random stream of events in which every answer is 0. */
 static size_t recorded_stream(struct pair *pair, uint64_t n, struct call *calls, size_t most)
 {
     struct style style = {.updates = 10};
@@ -481,7 +473,7 @@ static size_t recorded_stream(struct pair *pair, uint64_t n, struct call *calls,
     open_pair(pair, n);
     for (unsigned i = 0; i < MOST_CALLS && count < most; i++) {
         struct call c = any_call(&style, n);
-        if (c.what == REPLY && c.kind == 0 && any_below(2))
+        if (c.kind == SECOND_DENY && any_below(2))
             c.number &= any();
         if (both(pair, &c) == 0)
             calls[count++] = c;
@@ -495,7 +487,7 @@ static void rearrange(struct call *calls, size_t count)
     for (size_t swaps = 0; swaps < 20 * count; swaps++) {
         size_t i = any_below(count - 1);
         struct call *a = &calls[i], *b = &calls[i + 1];
-        if (a->permission == b->permission && (a->what != REPLY || b->what != REPLY))
+        if (a->permission == b->permission && !(is_reply(a) && is_reply(b)))
             continue;
         struct call c = *a;
         *a = *b;
@@ -539,9 +531,9 @@ static void retold_streams(void)
         size_t count = 0;
         for (size_t i = 0; i < pair.second.used; i++) {
             struct second_row row = second_row(pair.second.possible[i], pair.second.n);
-            calls[count++] = (struct call){REPLY, BYTES, pair.second.permission[i], 0, row.denied};
+            calls[count++] = (struct call){EVENT, BYTES, pair.second.permission[i], SECOND_DENY, row.denied};
             for (size_t k = 0; k < row.count; k++)
-                calls[count++] = (struct call){REPLY, BYTES, pair.second.permission[i], 1, row.open[k]};
+                calls[count++] = (struct call){EVENT, BYTES, pair.second.permission[i], SECOND_ALLOW, row.open[k]};
         }
         if (count > 1)
             rearrange(calls, count);

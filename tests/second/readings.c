@@ -70,8 +70,8 @@ static void header_numbers(void)
         NUMBER(NO_ROLE, SECOND_NO_ROLE),
         NUMBER(REPLY_DENY, 0),
         NUMBER(REPLY_ALLOW, 1),
-        NUMBER(WITHDRAWN, 0),
-        NUMBER(GIVEN, 1),
+        NUMBER(WITHDRAWN, 2),
+        NUMBER(GIVEN, 3),
         NUMBER(RECORDED, 0),
         NUMBER(BAD_AREA, 1),
         NUMBER(BAD_ROLE_COUNT, 2),
@@ -238,10 +238,10 @@ static uint64_t word(size_t at)
 static uint64_t done(const struct step *step)
 {
     switch (step->letter) {
-    case 'A': return wickthrush_reply(area, BYTES, 5, 1, step->number);
-    case 'D': return wickthrush_reply(area, BYTES, 5, 0, step->number);
-    case 'G': return wickthrush_update(area, BYTES, 5, 1, step->number);
-    case 'R': return wickthrush_update(area, BYTES, 5, 0, step->number);
+    case 'D': return wickthrush_event(area, BYTES, 5, 0, step->number);
+    case 'A': return wickthrush_event(area, BYTES, 5, 1, step->number);
+    case 'R': return wickthrush_event(area, BYTES, 5, 2, step->number);
+    case 'G': return wickthrush_event(area, BYTES, 5, 3, step->number);
     case 'Q': return decided(area, BYTES, 5, step->number);
     case '?': return role_to_ask(area, BYTES, 5, step->number);
     case 'F': return wickthrush_forget(area, BYTES, 5);
@@ -271,29 +271,56 @@ static void table_of_readings(void)
     }
 }
 
+/* What each kind makes of the number 5: of a set, roles 0 and 2; of a role, itself. */
+static void kinds(void)
+{
+    static const struct {
+        uint64_t kind, denied, open, session;
+        uint32_t answer;
+    } effects[] = {
+        {0, SET2(0, 2), 0, SET2(0, 2), 10},
+        {1, 0, SET2(0, 2), SET2(0, 2), 11},
+        {2, BIT(5), 0, BIT(5), 10},
+        {3, 0, BIT(5), BIT(5), 11},
+    };
+    group("each kind, with a number that is a set or a role");
+    for (size_t i = 0; i < sizeof effects / sizeof effects[0]; i++) {
+        open_area(8);
+        memcpy(before, area, BYTES);
+        second_put(before, 1, 1);
+        second_put_row(before, 0, 9, effects[i].denied, effects[i].open != 0, &effects[i].open);
+        check(wickthrush_event(area, BYTES, 9, effects[i].kind, 5) == 0, "kind %zu isn't 0", i);
+        check(memcmp(area, before, BYTES) == 0, "kind %zu writes other bytes", i);
+        check(decided(area, BYTES, 9, effects[i].session) == effects[i].answer, "kind %zu is decided otherwise", i);
+    }
+}
+
 static void role_counts(void)
 {
     static const uint64_t bad[] = {
         0, ROLES + 1, ROLES + 2, 128, 255, 256, 257, BIT(32), BIT(32) + 8, BIT(63), UINT64_MAX};
     group("role counts");
     for (uint64_t n = 1; n <= ROLES; n++) {
+        const uint64_t unknown[] = {n, 64, BIT(32), BIT(32) + 1, BIT(63), UINT64_MAX};
         open_area(n);
         check(word(0) == n && word(1) == 0, "open with %llu roles writes other words", (unsigned long long)n);
-        for (uint64_t kind = 0; kind <= 1; kind++) {
-            check(wickthrush_update(area, BYTES, 5, kind, n - 1) == 0, "role %llu is unknown",
-                  (unsigned long long)n - 1);
-            check(decided(area, BYTES, 5, BIT(n - 1)) == 10 + kind, "role %llu, update %llu",
-                  (unsigned long long)n - 1, (unsigned long long)kind);
-            check(wickthrush_reply(area, BYTES, 6, kind, BIT(n - 1)) == (kind ? 6 : 0), "reply on role %llu",
-                  (unsigned long long)n - 1);
-            check(wickthrush_update(area, BYTES, 5, kind, n) == 4, "role %llu of as many is known",
+        check(wickthrush_event(area, BYTES, 5, 0, BIT(n - 1)) == 0 && decided(area, BYTES, 5, BIT(n - 1)) == 10,
+              "deny on role %llu", (unsigned long long)n - 1);
+        check(wickthrush_event(area, BYTES, 5, 1, BIT(n - 1)) == 6, "allow on role %llu", (unsigned long long)n - 1);
+        for (uint64_t kind = 0; n < ROLES && kind <= 1; kind++)
+            check(wickthrush_event(area, BYTES, 5, kind, BIT(n)) == 4, "a set with role %llu of as many",
                   (unsigned long long)n);
-            if (n < ROLES)
-                check(wickthrush_reply(area, BYTES, 5, kind, BIT(n)) == 4, "a set with role %llu of as many",
-                      (unsigned long long)n);
+        for (uint64_t kind = 2; kind <= 3; kind++) {
+            check(wickthrush_event(area, BYTES, 6, kind, n - 1) == 0, "role %llu is unknown",
+                  (unsigned long long)n - 1);
+            check(decided(area, BYTES, 6, BIT(n - 1)) == (kind == 2 ? 10 : 11), "role %llu, kind %llu",
+                  (unsigned long long)n - 1, (unsigned long long)kind);
+            for (size_t i = 0; i < sizeof unknown / sizeof unknown[0]; i++)
+                check(wickthrush_event(area, BYTES, 6, kind, unknown[i]) == 4, "role %llu of %llu is known",
+                      (unsigned long long)unknown[i], (unsigned long long)n);
         }
     }
-    check(wickthrush_reply(area, BYTES, 7, 0, UINT64_MAX) == 0 && decided(area, BYTES, 7, UINT64_MAX) == 10,
+    check(wickthrush_event(area, BYTES, 7, 0, UINT64_MAX) == 0 && decided(area, BYTES, 7, UINT64_MAX) == 10,
           "all 64 roles denied");
     memcpy(before, area, BYTES);
     for (size_t i = 0; i < sizeof bad / sizeof bad[0]; i++)
@@ -313,11 +340,11 @@ static void roles_to_ask(void)
                   (unsigned long long)n, (unsigned long long)r);
             check(role_to_ask(area, BYTES, 5, BIT(r)) == r, "role %llu alone", (unsigned long long)r);
             check(role_to_ask(area, BYTES, 6, BIT(r)) == r, "role %llu without a row", (unsigned long long)r);
-            check(wickthrush_reply(area, BYTES, 5, 0, BIT(r)) == 0, "deny %llu", (unsigned long long)r);
+            check(wickthrush_event(area, BYTES, 5, 0, BIT(r)) == 0, "deny %llu", (unsigned long long)r);
             check(decided(area, BYTES, 5, BIT(r)) == 10, "role %llu denied", (unsigned long long)r);
         }
         check(decided(area, BYTES, 5, all) == 10, "all %llu roles denied", (unsigned long long)n);
-        check(wickthrush_update(area, BYTES, 5, 1, n - 1) == 0 && decided(area, BYTES, 5, all) == 11, "role %llu given",
+        check(wickthrush_event(area, BYTES, 5, 3, n - 1) == 0 && decided(area, BYTES, 5, all) == 11, "role %llu given",
               (unsigned long long)n - 1);
     }
 }
@@ -332,22 +359,22 @@ static void open_sets(void)
         open_area(n);
         memcpy(empty, area, BYTES);
         for (uint64_t r = low; r < last; r++)
-            check(wickthrush_reply(area, BYTES, 5, 1, BIT(r)) == 0, "one-role set %llu", (unsigned long long)r);
+            check(wickthrush_event(area, BYTES, 5, 1, BIT(r)) == 0, "one-role set %llu", (unsigned long long)r);
         check(word(second_count_at(0)) == OPENS, "not 15 open sets");
         memcpy(before, area, BYTES);
-        check(wickthrush_reply(area, BYTES, 5, 1, BIT(last)) == 7, "a 16th open set isn't 7");
-        check(wickthrush_reply(area, BYTES, 5, 1, SET2(low, last)) == 0, "a set that reducing drops isn't 0");
-        check(wickthrush_update(area, BYTES, 5, 1, low) == 0, "giving a proved role isn't 0");
+        check(wickthrush_event(area, BYTES, 5, 1, BIT(last)) == 7, "a 16th open set isn't 7");
+        check(wickthrush_event(area, BYTES, 5, 1, SET2(low, last)) == 0, "a set that reducing drops isn't 0");
+        check(wickthrush_event(area, BYTES, 5, 3, low) == 0, "giving a proved role isn't 0");
         check(memcmp(area, before, BYTES) == 0, "the area changed");
-        check(wickthrush_update(area, BYTES, 5, 1, last) == 8, "giving a 16th role isn't 8");
+        check(wickthrush_event(area, BYTES, 5, 3, last) == 8, "giving a 16th role isn't 8");
         check(memcmp(area, empty, BYTES) == 0, "the row isn't gone");
     }
     /* Full is judged after reducing: a set that takes the place of two others fits. */
     open_area(32);
     for (uint64_t r = 0; r < OPENS; r++)
-        check(wickthrush_reply(area, BYTES, 5, 1, r < 2 ? SET2(30, r) : SET2(2 * r, 2 * r + 1)) == 0, "15 open sets");
-    check(wickthrush_reply(area, BYTES, 5, 1, SET2(2, 3)) == 7, "a 16th set isn't 7");
-    check(wickthrush_reply(area, BYTES, 5, 1, BIT(30)) == 0, "a set that takes the place of two isn't 0");
+        check(wickthrush_event(area, BYTES, 5, 1, r < 2 ? SET2(30, r) : SET2(2 * r, 2 * r + 1)) == 0, "15 open sets");
+    check(wickthrush_event(area, BYTES, 5, 1, SET2(2, 3)) == 7, "a 16th set isn't 7");
+    check(wickthrush_event(area, BYTES, 5, 1, BIT(30)) == 0, "a set that takes the place of two isn't 0");
     check(word(second_count_at(0)) == OPENS - 1, "not 14 open sets");
 }
 
@@ -359,24 +386,27 @@ static void rows(void)
         /* Ascending, descending, and mixed; none is permission 5. */
         for (uint32_t i = 0; i < ROWS; i++) {
             uint32_t k = order == 0 ? i : order == 1 ? ROWS - 1 - i : i * 37 % ROWS;
-            check(wickthrush_reply(area, BYTES, 1000 + 3 * k, k % 2, BIT(k % 8)) == 0, "row %lu", (unsigned long)k);
+            check(wickthrush_event(area, BYTES, 1000 + 3 * k, k % 2, BIT(k % 8)) == 0, "row %lu", (unsigned long)k);
         }
         check(word(1) == ROWS && second_good(area), "not 128 good rows");
         memcpy(before, area, BYTES);
-        check(wickthrush_reply(area, BYTES, 5, 0, BIT(0)) == 7, "deny on 0 isn't 7");
-        check(wickthrush_reply(area, BYTES, 5, 1, BIT(0)) == 7, "allow on 0 isn't 7");
-        check(wickthrush_reply(area, BYTES, 5, 1, 0) == 6, "allow on - isn't 6");
-        check(wickthrush_reply(area, BYTES, 5, 0, 0) == 0, "deny on - isn't 0");
-        check(wickthrush_update(area, BYTES, 5, 0, 0) == 8, "withdraw 0 isn't 8");
-        check(wickthrush_update(area, BYTES, 5, 1, 0) == 8, "give 0 isn't 8");
+        check(wickthrush_event(area, BYTES, 5, 0, BIT(0)) == 7, "deny on 0 isn't 7");
+        check(wickthrush_event(area, BYTES, 5, 1, BIT(0)) == 7, "allow on 0 isn't 7");
+        check(wickthrush_event(area, BYTES, 5, 1, 0) == 6, "allow on - isn't 6");
+        check(wickthrush_event(area, BYTES, 5, 0, 0) == 0, "deny on - isn't 0");
+        check(wickthrush_event(area, BYTES, 5, 2, 0) == 8, "withdraw 0 isn't 8");
+        check(wickthrush_event(area, BYTES, 5, 3, 0) == 8, "give 0 isn't 8");
+        check(wickthrush_event(area, BYTES, 5, 4, 0) == 5, "kind 4 isn't 5");
+        check(wickthrush_event(area, BYTES, 5, 1, BIT(8)) == 4, "allow on 8 isn't 4");
+        check(wickthrush_event(area, BYTES, 5, 3, 8) == 4, "give 8 isn't 4");
         check(wickthrush_forget(area, BYTES, 5) == 0, "forget of a permission without a row isn't 0");
         check(role_to_ask(area, BYTES, 5, BIT(0)) == 0, "decide without a row isn't 12 with role 0");
         check(memcmp(area, before, BYTES) == 0, "the area changed");
-        check(wickthrush_update(area, BYTES, 1003, 1, 7) == 0, "an update on a used row isn't 0");
-        check(wickthrush_reply(area, BYTES, 5, 0, BIT(0)) == 7, "deny on 0 still isn't 7");
+        check(wickthrush_event(area, BYTES, 1003, 3, 7) == 0, "an update on a used row isn't 0");
+        check(wickthrush_event(area, BYTES, 5, 0, BIT(0)) == 7, "deny on 0 still isn't 7");
         check(wickthrush_forget(area, BYTES, 1000 + 3 * 64) == 0, "forget isn't 0");
         check(word(1) == ROWS - 1 && second_good(area), "not 127 good rows");
-        check(wickthrush_reply(area, BYTES, 5, 0, BIT(0)) == 0, "after one forget deny on 0 isn't 0");
+        check(wickthrush_event(area, BYTES, 5, 0, BIT(0)) == 0, "after one forget deny on 0 isn't 0");
         check(decided(area, BYTES, 5, BIT(0)) == 10, "the new row doesn't deny");
     }
 }
@@ -384,29 +414,33 @@ static void rows(void)
 /* Every mix of faults: the answer is the first of 1, 3, 5, 4, 6 that applies. */
 static void order_of_refusals(void)
 {
+    /* By kind: replies that contradict what is known, and updates that say it. */
+    static const uint64_t numbers[] = {BIT(2), BIT(1), 1, 2};
     group("order of refusals");
-    for (unsigned faults = 0; faults < 64; faults++) {
-        bool broken = faults & 1, no_permission = faults & 2, bad_kind = faults & 4, unknown = faults & 8,
-             against = faults & 16;
-        size_t len = faults & 32 ? BYTES - 1 : BYTES;
+    for (unsigned faults = 0; faults < 32; faults++) {
+        bool broken = faults & 1, no_permission = faults & 2, bad_kind = faults & 4, unknown = faults & 8;
+        size_t len = faults & 16 ? BYTES - 1 : BYTES;
         open_area(8);
-        check(wickthrush_reply(area, BYTES, 5, 0, BIT(1)) == 0, "deny 1");
+        check(wickthrush_event(area, BYTES, 5, 0, BIT(1)) == 0, "deny 1");
+        check(wickthrush_event(area, BYTES, 5, 1, BIT(2)) == 0, "allow 2");
         if (broken)
             area[BYTES - 1] = 1;
         memcpy(before, area, BYTES);
         uint32_t permission = no_permission ? 0 : 5;
-        uint64_t set = (against ? BIT(1) : 0) | (unknown ? BIT(8) : 0);
+        uint64_t beyond = unknown ? BIT(8) : 0;
         uint32_t area_or_permission = broken || len != BYTES ? 1 : no_permission ? 3 : 0;
-        uint32_t first = area_or_permission ? area_or_permission : bad_kind ? 5 : unknown ? 4 : 0;
-        uint32_t reply = first ? first : 6;
-        check(wickthrush_reply(area, len, permission, bad_kind ? 2 : 1, set) == reply, "reply with faults %#x", faults);
-        check(wickthrush_update(area, len, permission, bad_kind ? BIT(32) : 0, unknown ? 8 : 1) == first,
-              "update with faults %#x", faults);
+        for (uint64_t kind = 0; kind < SECOND_KINDS; kind++) {
+            uint32_t event = bad_kind ? 5 : unknown ? 4 : kind < 2 ? 6 : 0;
+            check(wickthrush_event(area, len, permission, kind + (bad_kind ? 4 : 0), numbers[kind] + beyond) ==
+                      (area_or_permission ? area_or_permission : event),
+                  "kind %llu with faults %#x", (unsigned long long)kind, faults);
+        }
         uint32_t decide = area_or_permission ? area_or_permission : unknown ? 4 : 10;
-        check(decided(area, len, permission, set) == decide, "decide with faults %#x", faults);
+        check(decided(area, len, permission, BIT(1) + beyond) == decide, "decide with faults %#x", faults);
         if (area_or_permission)
             check(wickthrush_forget(area, len, permission) == area_or_permission, "forget with faults %#x", faults);
-        check(wickthrush_open(area, len, against ? 0 : 65) == (len != BYTES ? 1 : 2), "open with faults %#x", faults);
+        for (uint64_t n = 0; n <= 65; n += 65)
+            check(wickthrush_open(area, len, n) == (len != BYTES ? 1 : 2), "open with faults %#x", faults);
         check(memcmp(area, before, BYTES) == 0, "faults %#x changed the area", faults);
     }
 }
@@ -415,24 +449,27 @@ static void order_of_refusals(void)
 static void wide_numbers(void)
 {
     group("numbers beyond their range, as whole 64-bit numbers");
-    open_area(8);
-    check(wickthrush_reply(area, BYTES, 5, 0, BIT(1)) == 0, "deny 1");
+    open_area(4);
+    check(wickthrush_event(area, BYTES, 5, 0, BIT(1)) == 0, "deny 1");
     memcpy(before, area, BYTES);
-    for (unsigned high = 3; high < 64; high++) {
-        for (uint64_t low = 0; low <= 1; low++) {
+    for (unsigned high = 2; high < 64; high++) {
+        for (uint64_t low = 0; low < 4; low++) {
             uint64_t number = BIT(high) + low;
-            check(wickthrush_reply(area, BYTES, 5, number, BIT(2)) == 5, "verdict 2^%u + %llu", high,
+            check(wickthrush_event(area, BYTES, 5, number, 2) == 5, "kind 2^%u + %llu", high, (unsigned long long)low);
+            check(wickthrush_event(area, BYTES, 5, number, UINT64_MAX) == 5, "kind 2^%u + %llu, unknown role", high,
                   (unsigned long long)low);
-            check(wickthrush_update(area, BYTES, 5, number, 2) == 5, "kind 2^%u + %llu", high, (unsigned long long)low);
-            check(wickthrush_update(area, BYTES, 5, low, number) == 4, "role 2^%u + %llu", high,
-                  (unsigned long long)low);
-            uint64_t unknown = high < 8 ? BIT(8) : BIT(high);
-            check(wickthrush_reply(area, BYTES, 5, low, unknown | BIT(2)) == 4, "a set with role %u", high);
-            check(decided(area, BYTES, 5, unknown | low) == 4, "a session with role %u", high);
+            for (uint64_t kind = 2; kind <= 3; kind++)
+                check(wickthrush_event(area, BYTES, 5, kind, number) == 4, "role 2^%u + %llu, kind %llu", high,
+                      (unsigned long long)low, (unsigned long long)kind);
         }
+        uint64_t unknown = high < 4 ? BIT(4) : BIT(high);
+        for (uint64_t kind = 0; kind <= 1; kind++)
+            check(wickthrush_event(area, BYTES, 5, kind, unknown | BIT(2)) == 4, "a set with role %u", high);
+        check(decided(area, BYTES, 5, unknown | BIT(2)) == 4, "a session with role %u", high);
         if (high > 6)
             check(wickthrush_open(area, BYTES, BIT(high) + 8) == 2, "role count 2^%u + 8", high);
     }
+    check(wickthrush_event(area, BYTES, 5, UINT64_MAX, 2) == 5, "kind 2^64 - 1");
     check(memcmp(area, before, BYTES) == 0, "the area changed");
 }
 
@@ -443,11 +480,12 @@ static void refused(const char *name, size_t len)
 {
     memcpy(before, area, BYTES);
     uint32_t answers[] = {
-        wickthrush_reply(area, len, 5, 0, 0),
-        wickthrush_reply(area, len, 5, 1, 1),
-        wickthrush_reply(area, len, 0, 2, UINT64_MAX),
-        wickthrush_update(area, len, 5, 0, 0),
-        wickthrush_update(area, len, 0, 2, 64),
+        wickthrush_event(area, len, 5, 0, 0),
+        wickthrush_event(area, len, 5, 1, 1),
+        wickthrush_event(area, len, 5, 2, 0),
+        wickthrush_event(area, len, 5, 3, 0),
+        wickthrush_event(area, len, 5, 4, 0),
+        wickthrush_event(area, len, 0, UINT64_MAX, UINT64_MAX),
         decided(area, len, 5, 0),
         decided(area, len, 5, 1),
         decided(area, len, 0, UINT64_MAX),
@@ -751,18 +789,18 @@ static void short_stream(uint8_t *at)
     static bool has_first;
     uint32_t answers[] = {
         wickthrush_open(at, BYTES, 64),
-        wickthrush_reply(at, BYTES, 9, 0, SET2(1, 63)),
-        wickthrush_reply(at, BYTES, UINT32_MAX, 1, SET2(0, 62)),
-        wickthrush_reply(at, BYTES, 1, 1, SET2(3, 4)),
-        wickthrush_update(at, BYTES, 5, 1, 63),
+        wickthrush_event(at, BYTES, 9, 0, SET2(1, 63)),
+        wickthrush_event(at, BYTES, UINT32_MAX, 1, SET2(0, 62)),
+        wickthrush_event(at, BYTES, 1, 1, SET2(3, 4)),
+        wickthrush_event(at, BYTES, 5, 3, 63),
         wickthrush_forget(at, BYTES, 9),
     };
     for (size_t i = 0; i < sizeof answers / sizeof answers[0]; i++)
         check(answers[i] == 0, "call %zu of the stream", i);
     for (uint32_t permission = 10; permission < 200; permission++)
-        check(wickthrush_reply(at, BYTES, permission, 0, permission) == (permission < 135 ? 0 : 7), "row of %lu",
+        check(wickthrush_event(at, BYTES, permission, 0, permission) == (permission < 135 ? 0 : 7), "row of %lu",
               (unsigned long)permission);
-    check(wickthrush_update(at, BYTES, 300, 0, 0) == 8, "update without room");
+    check(wickthrush_event(at, BYTES, 300, 2, 0) == 8, "update without room");
     check(decided(at, BYTES, 5, BIT(63)) == 11, "decide");
     check(decided(at, BYTES - 1, 5, BIT(63)) == 1, "decide, one byte short");
     if (!has_first)
@@ -805,6 +843,7 @@ int main(void)
     put_guards();
     header_numbers();
     table_of_readings();
+    kinds();
     role_counts();
     roles_to_ask();
     open_sets();

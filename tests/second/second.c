@@ -34,21 +34,19 @@ second_sets second_all(uint64_t n)
     return all;
 }
 
-/* Those that agree with a reply. */
-static second_sets agreeing(second_sets possible, uint64_t verdict, uint64_t set)
+/* Those that agree with a reply; each as an update leaves it. */
+static second_sets after(second_sets possible, uint64_t kind, uint64_t number)
 {
-    return verdict == 1 ? possible & sharing(set) : possible & ~sharing(set);
-}
-
-/* Each after an update. */
-static second_sets updated(second_sets possible, uint64_t kind, uint64_t role)
-{
-    second_sets after = 0;
-    uint64_t alone = UINT64_C(1) << role;
+    if (kind == SECOND_DENY)
+        return possible & ~sharing(number);
+    if (kind == SECOND_ALLOW)
+        return possible & sharing(number);
+    second_sets changed = 0;
+    uint64_t alone = UINT64_C(1) << number;
     for (uint64_t h = 0; h < 1 << SECOND_ROLES; h++)
         if (member(possible, h))
-            after |= UINT64_C(1) << (kind == 1 ? h | alone : h & ~alone);
-    return after;
+            changed |= UINT64_C(1) << (kind == SECOND_GIVEN ? h | alone : h & ~alone);
+    return changed;
 }
 
 /* Whether every possible holder set shares a role with a set. */
@@ -177,42 +175,25 @@ uint32_t second_open(struct second *second, size_t len, uint64_t n)
     return 0;
 }
 
-uint32_t second_reply(struct second *second, size_t len, uint32_t permission, uint64_t verdict, uint64_t set)
+uint32_t second_event(struct second *second, size_t len, uint32_t permission, uint64_t kind, uint64_t number)
 {
+    bool reply = kind < SECOND_WITHDRAWN;
     if (bad_area(second, len))
         return 1;
     if (permission == 0)
         return 3;
-    if (verdict != 0 && verdict != 1)
+    if (kind >= SECOND_KINDS)
         return 5;
-    if (!known_set(second, set))
+    if (reply ? !known_set(second, number) : number >= second->n)
         return 4;
-    second_sets possible = agreeing(second_possible(second, permission), verdict, set);
+    second_sets possible = after(second_possible(second, permission), kind, number);
     if (possible == 0)
         return 6;
-    if (!fits(second, permission, possible))
+    bool room = fits(second, permission, possible);
+    if (reply && !room)
         return 7;
-    learn(second, permission, possible);
-    return 0;
-}
-
-uint32_t second_update(struct second *second, size_t len, uint32_t permission, uint64_t kind, uint64_t role)
-{
-    if (bad_area(second, len))
-        return 1;
-    if (permission == 0)
-        return 3;
-    if (kind != 0 && kind != 1)
-        return 5;
-    if (role >= second->n)
-        return 4;
-    second_sets possible = updated(second_possible(second, permission), kind, role);
-    if (!fits(second, permission, possible)) {
-        learn(second, permission, second_all(second->n));
-        return 8;
-    }
-    learn(second, permission, possible);
-    return 0;
+    learn(second, permission, room ? possible : second_all(second->n));
+    return room ? 0 : 8;
 }
 
 static struct second_decided without_role(uint32_t answer)

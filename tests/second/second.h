@@ -19,6 +19,9 @@ enum {
     SECOND_ROOM = 4096 /* the fewest bytes of a buffer to print into */
 };
 
+/* The kinds of event: the replies, on a set, come before the updates, on a role. */
+enum { SECOND_DENY = 0, SECOND_ALLOW = 1, SECOND_WITHDRAWN = 2, SECOND_GIVEN = 3, SECOND_KINDS = 4 };
+
 /* Holder sets that are possible for a permission: bit h stands for the holder set h. */
 typedef uint64_t second_sets;
 
@@ -43,8 +46,7 @@ struct second_decided {
 
 /* The calls of the C side. A role count above SECOND_ROLES is beyond this program and ends it. */
 uint32_t second_open(struct second *second, size_t len, uint64_t n);
-uint32_t second_reply(struct second *second, size_t len, uint32_t permission, uint64_t verdict, uint64_t set);
-uint32_t second_update(struct second *second, size_t len, uint32_t permission, uint64_t kind, uint64_t role);
+uint32_t second_event(struct second *second, size_t len, uint32_t permission, uint64_t kind, uint64_t number);
 struct second_decided second_decide(const struct second *second, size_t len, uint32_t permission, uint64_t set);
 uint32_t second_forget(struct second *second, size_t len, uint32_t permission);
 

@@ -57,10 +57,11 @@ static int stored(unsigned long seed, const char *name)
         return 1;
     for (uint64_t k = 0; k < events; k++) {
         uint32_t permission = (uint32_t)(UINT32_MAX - any_below(permissions) * (UINT32_MAX / permissions));
-        uint32_t answer = any_below(10) > 0
-                              ? wickthrush_reply(area, sizeof area, permission, any_below(3) > 0, any_set(roles))
-                              : wickthrush_update(area, sizeof area, permission, any_below(2), any_below(roles));
-        recorded += answer == WICKTHRUSH_RECORDED;
+        uint64_t kind = any_below(3) > 0 ? WICKTHRUSH_REPLY_ALLOW : WICKTHRUSH_REPLY_DENY;
+        if (any_below(10) == 0)
+            kind = any_below(2) > 0 ? WICKTHRUSH_GIVEN : WICKTHRUSH_WITHDRAWN;
+        uint64_t number = kind < WICKTHRUSH_WITHDRAWN ? any_set(roles) : any_below(roles);
+        recorded += wickthrush_event(area, sizeof area, permission, kind, number) == WICKTHRUSH_RECORDED;
     }
     return events > 10 && recorded == 0 ? 1 : write_area(name);
 }
@@ -70,10 +71,10 @@ static int full(const char *name)
     if (wickthrush_open(area, sizeof area, WICKTHRUSH_MOST_ROLES) != WICKTHRUSH_RECORDED)
         return 1;
     for (uint32_t row = 0; row < WICKTHRUSH_MOST_ROWS; row++) {
-        if (wickthrush_reply(area, sizeof area, UINT32_MAX - row, WICKTHRUSH_REPLY_DENY, UINT64_C(0xffff) << 48) != 0)
+        if (wickthrush_event(area, sizeof area, UINT32_MAX - row, WICKTHRUSH_REPLY_DENY, UINT64_C(0xffff) << 48) != 0)
             return 1;
         for (unsigned k = 0; k < WICKTHRUSH_MOST_OPEN_SETS; k++)
-            if (wickthrush_reply(area, sizeof area, UINT32_MAX - row, WICKTHRUSH_REPLY_ALLOW,
+            if (wickthrush_event(area, sizeof area, UINT32_MAX - row, WICKTHRUSH_REPLY_ALLOW,
                                  UINT64_C(0xffffffff0000) & ~(UINT64_C(1) << (16 + k)) & ~(UINT64_C(1) << (31 + row % 16))) != 0)
                 return 1;
     }

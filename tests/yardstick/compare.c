@@ -7,9 +7,9 @@
 
 #include <string.h>
 
-enum what { OPEN, REPLY, UPDATE, DECIDE, FORGET, WHATS };
+enum what { OPEN, EVENT, DECIDE, FORGET };
 
-/* One call; kind is a verdict or an update kind, number a role count, a set or a role. */
+/* One call; kind is an event's, number a role count, a set or a role. */
 struct call {
     enum what what;
     size_t len;
@@ -26,8 +26,7 @@ static uint32_t ask_library(const struct call *c, uint32_t *role)
     wickthrush_decided decided;
     switch (c->what) {
     case OPEN: return wickthrush_open(area, c->len, c->number);
-    case REPLY: return wickthrush_reply(area, c->len, c->permission, c->kind, c->number);
-    case UPDATE: return wickthrush_update(area, c->len, c->permission, c->kind, c->number);
+    case EVENT: return wickthrush_event(area, c->len, c->permission, c->kind, c->number);
     case DECIDE:
         decided = wickthrush_decide(area, c->len, c->permission, c->number);
         *role = decided.role;
@@ -41,8 +40,7 @@ static uint32_t ask_yardstick(const struct call *c, uint32_t *role)
     struct yardstick_decided decided;
     switch (c->what) {
     case OPEN: return yardstick_open(other, c->len, c->number);
-    case REPLY: return yardstick_reply(other, c->len, c->permission, c->kind, c->number);
-    case UPDATE: return yardstick_update(other, c->len, c->permission, c->kind, c->number);
+    case EVENT: return yardstick_event(other, c->len, c->permission, c->kind, c->number);
     case DECIDE:
         decided = yardstick_decide(other, c->len, c->permission, c->number);
         *role = decided.role;
@@ -75,7 +73,8 @@ static uint32_t both(const struct call *c)
 
 /* ---- numbers for calls */
 
-static const uint64_t odd_numbers[] = {2, 63, 64, 65, 255, 256, UINT64_C(1) << 32, UINT64_C(1) << 63, UINT64_MAX};
+static const uint64_t odd_numbers[] = {
+    2, 3, 4, 5, 63, 64, 65, 255, 256, UINT64_C(1) << 32, (UINT64_C(1) << 32) + 3, UINT64_C(1) << 63, UINT64_MAX};
 static const size_t odd_lengths[] = {0, 1, AREA_BYTES - 8, AREA_BYTES - 1, AREA_BYTES + 1, AREA_BYTES + 8, SIZE_MAX};
 
 #define ANY_OF(list) ((list)[any_below(sizeof(list) / sizeof(list)[0])])
@@ -107,13 +106,19 @@ static uint32_t any_permission(const struct style *style)
     return any_below(64) ? permission : UINT32_MAX - permission;
 }
 
+static struct call any_event(const struct style *style, uint64_t kind)
+{
+    uint64_t number = kind < YARDSTICK_WITHDRAWN ? any_set(style) : any_below(style->n);
+    return (struct call){EVENT, AREA_BYTES, any_permission(style), kind, number};
+}
+
 static struct call any_call(const struct style *style)
 {
-    struct call c = {REPLY, AREA_BYTES, any_permission(style), any_below(2), any_set(style)};
     uint64_t dice = any_below(100);
     if (dice < style->updates)
-        c = (struct call){UPDATE, AREA_BYTES, c.permission, c.kind, any_below(style->n)};
-    else if (dice < style->updates + 20)
+        return any_event(style, YARDSTICK_WITHDRAWN + any_below(2));
+    struct call c = any_event(style, YARDSTICK_DENY + any_below(2));
+    if (dice < style->updates + 20)
         c.what = DECIDE;
     else if (dice < style->updates + 22)
         c.what = FORGET;
@@ -158,7 +163,7 @@ static void good_streams(void)
         struct style style = any_style();
         for (size_t i = 0; i < AREA_BYTES; i++)
             area[i] = other[i] = (uint8_t)any();
-        both(&(struct call){REPLY, AREA_BYTES, 1, 0, 1});
+        both(&(struct call){EVENT, AREA_BYTES, 1, YARDSTICK_DENY, 1});
         both(&(struct call){OPEN, AREA_BYTES, 0, 0, style.n});
         stream(&style, 250, 10);
         check(yardstick_good(area, AREA_BYTES), "the area breaks a layout rule");
@@ -187,20 +192,19 @@ static void put_both(size_t at, uint64_t value)
         area[8 * at + k] = other[8 * at + k] = (uint8_t)(value >> 8 * k);
 }
 
-/* Every kind of call once; what is good stays comparable, what is bad must be left alone. */
+/* Every call once, the event once of each kind; what is good stays comparable, what is bad must be left alone. */
 static void every_call(const struct style *style)
 {
     if (yardstick_good(area, AREA_BYTES))
         good_areas++;
     else
         bad_areas++;
-    for (enum what what = REPLY; what < WHATS; what++) {
-        struct call c = any_call(style);
-        c.what = what;
-        if (what == UPDATE)
-            c.number = any_below(style->n);
+    for (uint64_t kind = YARDSTICK_DENY; kind <= YARDSTICK_GIVEN; kind++) {
+        struct call c = any_event(style, kind);
         both(&c);
     }
+    both(&(struct call){DECIDE, AREA_BYTES, any_permission(style), 0, any_set(style)});
+    both(&(struct call){FORGET, AREA_BYTES, any_permission(style), 0, 0});
 }
 
 static void decide_once(void)

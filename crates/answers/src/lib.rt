@@ -32,10 +32,10 @@ fn tell(area: &mut [u8], e: Event) -> Answer
     let p = e.permission;
     let h = e.happening;
     match h {
-        Happening::Allow(s) => cache::reply(area, p, 1, s.bits),
-        Happening::Deny(s) => cache::reply(area, p, 0, s.bits),
-        Happening::Given(r) => cache::update(area, p, 1, r),
-        Happening::Withdrawn(r) => cache::update(area, p, 0, r),
+        Happening::Deny(s) => cache::event(area, p, 0, s.bits),
+        Happening::Allow(s) => cache::event(area, p, 1, s.bits),
+        Happening::Withdrawn(r) => cache::event(area, p, 2, r),
+        Happening::Given(r) => cache::event(area, p, 3, r),
     }
 }
 

@@ -1,35 +1,40 @@
 -- The answers of the calls that change the area, refusal by refusal. Assumes nothing.
 use mathlib.Core.Path.{_≡_, sym, ap, _∙_, subst⁻¹}
-use mathlib.Core.Bool.{true, false, not}
+use mathlib.Core.Bool.{true, false}
 use mathlib.Core.List.{List}
 use Prim.Native.Nat.{ℕ, _≤_, _<_}
-use lib.Dec.{leb}
 use borrow.Author.Tests.{le-leb, lt-leb}
-use Rattle.meaning.specs.declared.Happening.{Happening}
+use Rattle.meaning.specs.Events.{known}
 use Rattle.meaning.specs.Rows.{blank}
 use Rattle.area.specs.Layout.{goodBytes}
 use Rattle.area.specs.State.{withRow, stateOf, areaOf}
 use Rattle.calls.specs.declared.Answer.{Answer}
-use Rattle.calls.specs.declared.Answer.the-variants.{Recorded, BadArea, NoPermission, BadVerdict}
-use Rattle.calls.specs.Calls.{Out, stays, valid, eventOf, eventFor, forgetOf}
+use Rattle.calls.specs.declared.Answer.the-variants.{Recorded, BadArea, NoPermission, UnknownRole, BadVerdict}
+use Rattle.calls.specs.Calls.{Out, stays, valid, happened, eventIn, eventOf, forgetOf}
 use Rattle.calls.specs.Answers.{Gives}
-use Rattle.calls.proofs.CallLaws.{for-bad-area, for-no-permission, for-bad-verdict, for-good, forget-bad-area, forget-no-permission, forget-forgets}
+use Rattle.calls.proofs.CallLaws.{event-bad-area, event-no-permission, event-bad-kind, event-unknown, event-known, forget-bad-area, forget-no-permission, forget-forgets}
 use Rattle.cache.proofs.Ladder.{gives}
 
 -- ---- an event, its numbers first
 
-module _ (l : List ℕ) (p v : ℕ) (e : Happening) (o : Out) (q : o ≡ eventFor l p v e) where
-  pub event-1 : goodBytes l ≡ false → Gives o BadArea l
-  event-1 h = gives o BadArea l (q ∙ for-bad-area l p v e h)
+module _ (l : List ℕ) (p k x : ℕ) where
+  pub event-1 : goodBytes l ≡ false → Gives (eventOf l p k x) BadArea l
+  event-1 h = gives (eventOf l p k x) BadArea l (event-bad-area l p k x h)
 
-  pub event-3 : goodBytes l ≡ true → valid p ≡ false → Gives o NoPermission l
-  event-3 h k = gives o NoPermission l (q ∙ for-no-permission l p v e h k)
+  module _ (h : goodBytes l ≡ true) where
+    pub event-3 : valid p ≡ false → Gives (eventOf l p k x) NoPermission l
+    event-3 v = gives (eventOf l p k x) NoPermission l (event-no-permission l p k x h v)
 
-  pub event-5 : goodBytes l ≡ true → valid p ≡ true → 1 < v → Gives o BadVerdict l
-  event-5 h k u = gives o BadVerdict l (q ∙ for-bad-verdict l p v e h k (lt-leb v 1 u))
+    module _ (v : valid p ≡ true) where
+      pub event-5 : 3 < k → Gives (eventOf l p k x) BadVerdict l
+      event-5 u = gives (eventOf l p k x) BadVerdict l (event-bad-kind l p k x h v (lt-leb k 3 u))
 
-  pub event-go : (f : Happening) (r : Answer) (m : List ℕ) → goodBytes l ≡ true → valid p ≡ true → v ≤ 1 → e ≡ f → Gives (eventOf l p f) r m → Gives o r m
-  event-go f r m h k u x g = subst⁻¹ (λ (y : Out). Gives y r m) (q ∙ for-good l p v e h k (le-leb v 1 u) ∙ ap (eventOf l p) x) g
+      module _ (u : k ≤ 3) where
+        pub event-4 : known (stateOf l .roles) (happened k x) ≡ false → Gives (eventOf l p k x) UnknownRole l
+        event-4 n = gives (eventOf l p k x) UnknownRole l (event-unknown l p k x h v (le-leb k 3 u) n)
+
+        pub event-go : (r : Answer) (m : List ℕ) → known (stateOf l .roles) (happened k x) ≡ true → Gives (eventIn l p (happened k x)) r m → Gives (eventOf l p k x) r m
+        event-go r m n g = subst⁻¹ (λ (o : Out). Gives o r m) (event-known l p k x h v (le-leb k 3 u) n) g
 
 -- ---- forgetting
 

@@ -1,73 +1,70 @@
 -- The answer to an event on a good area, by what the row's step comes to. Assumes nothing.
-use mathlib.Core.Path.{_≡_, refl, sym, ap, _∙_}
-use mathlib.Core.Bool.{true, false, not}
+use mathlib.Core.Path.{_≡_, refl, sym, ap}
+use mathlib.Core.Bool.{Bool, true, false, not, cond, _||_}
 use mathlib.Core.List.{List}
+use mathlib.Core.Logic.{_≢_}
 use Prim.Native.Nat.{ℕ}
-use lib.Dec.{not-T}
+use lib.Dec.{T, eqb}
+use Rattle.roles.proofs.Tests.{unlike}
 use Rattle.meaning.specs.declared.Happening.{Happening}
-use Rattle.meaning.specs.Events.{known, isReply}
-use Rattle.meaning.specs.Rows.{Row, blank, fits, contradicts, step, Settled, settle}
-use Rattle.roles.proofs.Tests.{T-true, T-false, unlike}
-use Rattle.meaning.proofs.Answers.{Case, refused, taken, no-room, dropped, case, update-agrees}
-use Rattle.area.specs.State.{State, withRow}
+use Rattle.meaning.specs.Rows.{Row, blank, fits, contradicts, step, Settled, unchanged, overflow, settle}
+use Rattle.meaning.proofs.Answers.{Case, refused, taken, no-room, dropped, case, settle-by}
+use Rattle.area.specs.State.{State, isBlank, rowFor, withRow}
 use Rattle.calls.specs.declared.Answer.{Answer}
-use Rattle.calls.specs.Calls.{Out, stays, writes, eventOn}
+use Rattle.calls.specs.Calls.{Out, stays, writes, fitsIn, settledIn, eventOn}
 use Rattle.calls.specs.Answers.{numberOf, Gives}
-use Rattle.calls.proofs.CallLaws.{unfit, event-contradicts, event-unfit}
+use Rattle.calls.proofs.CallLaws.{fitsIn-row, unfit}
 
 pub gives : (o : Out) (r : Answer) (l : List ℕ) → o ≡ stays (numberOf r) l → Gives o r l
 gives o r l e = record { answer = sym (ap (λ (x : Out). x .answer) e); area = sym (ap (λ (x : Out). x .area) e) }
 
--- ---- the event
-
 -- on an area l that holds s, where w is the row of p
-pub record Entered (l : List ℕ) (s : State) (p : ℕ) (e : Happening) (w : Row) (t : Settled) : Type 0 where
-  pub contradiction : t .answer ≡ 6 → eventOn l s p e w ≡ stays 6 l
-  pub full : t .answer ≡ 7 → eventOn l s p e w ≡ stays 7 l
-  pub forgets : t .answer ≡ 8 → eventOn l s p e w ≡ writes 8 (withRow s p (t .row))
-  pub forgets-row : t .answer ≡ 8 → t .row ≡ blank
-  pub agrees : t .answer ≡ 0 → contradicts e w ≡ false
-  pub fitting : t .answer ≡ 0 → fits (step e w) ≡ true
-  pub row : t .answer ≡ 0 → t .row ≡ step e w
+module _ (l : List ℕ) (s : State) (p : ℕ) (e : Happening) (w : Row) where
+  -- where p has a row, there is room for another in its place
+  pub settled-over : isBlank (rowFor p (s .rows)) ≡ false → eventOn l s p e w ≡ settledIn l s p (settle fits e w)
+  unfolding eventOn
+  settled-over b = ap (settledIn l s p) (settle-by (fitsIn s p) fits e w (fitsIn-row s p (step e w) b))
 
-module _ (l : List ℕ) (s : State) (p : ℕ) (e : Happening) (w : Row) (k : known (s .roles) e ≡ true) where
-  entered-by : (t : Settled) → Case e w t → Entered l s p e w t
-  entered-by t (refused c) = record {
-    contradiction = λ q. event-contradicts l s p e w k (T-true _ c);
-    full = unlike tt;
-    forgets = unlike tt;
-    forgets-row = unlike tt;
-    agrees = unlike tt;
-    fitting = unlike tt;
-    row = unlike tt;
-  }
-  entered-by t (taken c f) = record {
-    contradiction = unlike tt;
-    full = unlike tt;
-    forgets = unlike tt;
-    forgets-row = unlike tt;
-    agrees = λ q. T-false _ c;
-    fitting = λ q. T-true _ f;
-    row = λ q. refl;
-  }
-  entered-by t (no-room r c f) = record {
-    contradiction = unlike tt;
-    full = λ q. event-unfit l s p e w k (T-false _ c) (unfit s p (step e w) (T-false _ f)) ∙ rw (T-true (isReply e) r);
-    forgets = unlike tt;
-    forgets-row = unlike tt;
-    agrees = unlike tt;
-    fitting = unlike tt;
-    row = unlike tt;
-  }
-  entered-by t (dropped r f) = record {
-    contradiction = unlike tt;
-    full = unlike tt;
-    forgets = λ q. event-unfit l s p e w k (T-false _ (update-agrees e w r)) (unfit s p (step e w) (T-false _ f)) ∙ (let no : isReply e ≡ false = T-false (isReply e) (not-T (isReply e) r) in rw no);
-    forgets-row = λ q. refl;
-    agrees = unlike tt;
-    fitting = unlike tt;
-    row = unlike tt;
-  }
+  -- what the row alone refuses needs no room
+  pub settled-refused : settle fits e w .answer ≢ 0 → eventOn l s p e w ≡ settledIn l s p (settle fits e w)
+  unfolding eventOn settle
+  settled-refused n = go (contradicts e w) (fits (step e w)) refl n
+    where
+      go : (c f : Bool) → fits (step e w) ≡ f → cond c (unchanged 6 w) (cond f (record { answer = 0; row = step e w }) (overflow e w)) .answer ≢ 0
+          → settledIn l s p (cond c (unchanged 6 w) (cond (fitsIn s p (step e w)) (record { answer = 0; row = step e w }) (overflow e w)))
+          ≡ settledIn l s p (cond c (unchanged 6 w) (cond f (record { answer = 0; row = step e w }) (overflow e w)))
+      go true f q n = refl
+      go false true q n = absurd (n refl)
+      go false false q n = ap (λ (b : Bool). settledIn l s p (cond b (record { answer = 0; row = step e w }) (overflow e w))) (unfit s p (step e w) q)
 
-  pub entered : Entered l s p e w (settle e w)
-  entered = entered-by (settle e w) (case e w)
+module _ (l : List ℕ) (s : State) (p : ℕ) (t : Settled) where
+  pub settled-stays : (a : ℕ) → t .answer ≡ a → (eqb a 0 || eqb a 8) ≡ false → settledIn l s p t ≡ stays a l
+  settled-stays a q n = rw q (rw n)
+
+  pub settled-writes : (a : ℕ) → t .answer ≡ a → (eqb a 0 || eqb a 8) ≡ true → settledIn l s p t ≡ writes a (withRow s p (t .row))
+  settled-writes a q n = rw q (rw n)
+
+-- ---- what is recorded agrees and fits
+
+pub record Taken (e : Happening) (w : Row) (t : Settled) : Type 0 where
+  pub agrees : T (not (contradicts e w))
+  pub room : T (fits (step e w))
+  pub row : t .row ≡ step e w
+
+pub recorded⇒taken : (e : Happening) (w : Row) → settle fits e w .answer ≡ 0 → Taken e w (settle fits e w)
+recorded⇒taken e w = go (settle fits e w) (case fits e w)
+  where
+    go : (t : Settled) → Case fits e w t → t .answer ≡ 0 → Taken e w t
+    go t (refused c) = unlike tt
+    go t (taken c f) = λ q. record { agrees = c; room = f; row = refl }
+    go t (no-room r c f) = unlike tt
+    go t (dropped r f) = unlike tt
+
+pub forgotten⇒blank : (e : Happening) (w : Row) → settle fits e w .answer ≡ 8 → settle fits e w .row ≡ blank
+forgotten⇒blank e w = go (settle fits e w) (case fits e w)
+  where
+    go : (t : Settled) → Case fits e w t → t .answer ≡ 8 → t .row ≡ blank
+    go t (refused c) = unlike tt
+    go t (taken c f) = unlike tt
+    go t (no-room r c f) = unlike tt
+    go t (dropped r f) = λ q. refl

@@ -26,7 +26,7 @@ use Rattle.rows.specs.Stored.{Tidy, Proper, held, rowOf, storedRow, answerNumbe
 use Rattle.rows.proofs.Padded.{stored⇒tidy, stored⇒proper, stored⇒row, tidy-count}
 use Rattle.table.specs.Table.{rowsIn, Sound, holding, nth, foundFor}
 use Rattle.table.specs.declared.Found.the-variants.{At, Vacant}
-use Rattle.calls.specs.Calls.{eventOn, eventOf}
+use Rattle.calls.specs.Calls.{eventOn, eventIn}
 use Rattle.cache.proofs.Places.{found-at, found-vacant}
 
 module _ (l : List ℕ) (s : Sound l) (p i : ℕ) where
@@ -67,7 +67,7 @@ module _ (l : List ℕ) (s : Sound l) (p i : ℕ) where
     pub row-none : rowFor p (rowsIn l) ≡ blank
     row-none = miss-row (stateOf l .roles) 0 p (rowsIn l) (good-state l (s .good) .good-rows) miss
 
-    pub event-none : (h : Happening) → eventOf l p h ≡ eventOn l (stateOf l) p h blank
+    pub event-none : (h : Happening) → eventIn l p h ≡ eventOn l (stateOf l) p h blank
     event-none h = ap (eventOn l (stateOf l) p h) row-none
 
     pub state-new : (w : Row) → isBlank w ≡ false → holding l (insertAt i (entry p w) (rowsIn l)) ≡ withRow (stateOf l) p w
@@ -95,17 +95,17 @@ fitting-tidy w v e f = stored⇒tidy mostOpens (w .opens) (v .opens) (ap (λ (x 
 -- ---- events
 
 -- the answer of a step by value, where its row is v
-pub answered : (e : Happening) (w v : Row) (r : stored-settled.Settled) (a : stored-answer.Answer) → w ≡ v → stored-specs.Gives (settle e w) r → r .answer ≡ a → settle e v .answer ≡ answerNumber a
-answered e w v r a ew g q = sym (ap (λ (x : Row). settle e x .answer) ew) ∙ sym (g .answer) ∙ ap answerNumber q
+pub answered : (e : Happening) (w v : Row) (r : stored-settled.Settled) (a : stored-answer.Answer) → w ≡ v → stored-specs.Gives (settle fits e w) r → r .answer ≡ a → settle fits e v .answer ≡ answerNumber a
+answered e w v r a ew g q = sym (ap (λ (x : Row). settle fits e x .answer) ew) ∙ sym (g .answer) ∙ ap answerNumber q
 
-pub settled-row : (e : Happening) (w v : Row) (r : stored-settled.Settled) → w ≡ v → stored-specs.Gives (settle e w) r → rowOf (r .row) ≡ settle e v .row
-settled-row e w v r ew g = stored⇒row (r .row) (settle e w .row) (g .row) ∙ ap (λ (x : Row). settle e x .row) ew
+pub settled-row : (e : Happening) (w v : Row) (r : stored-settled.Settled) → w ≡ v → stored-specs.Gives (settle fits e w) r → rowOf (r .row) ≡ settle fits e v .row
+settled-row e w v r ew g = stored⇒row (r .row) (settle fits e w .row) (g .row) ∙ ap (λ (x : Row). settle fits e x .row) ew
 
-pub settled-tidy : (e : Happening) (w : stored-row.Row) (r : stored-settled.Settled) → Tidy mostOpens (w .opens) → stored-specs.Gives (settle e (rowOf w)) r → Tidy mostOpens (r .row .opens)
+pub settled-tidy : (e : Happening) (w : stored-row.Row) (r : stored-settled.Settled) → Tidy mostOpens (w .opens) → stored-specs.Gives (settle fits e (rowOf w)) r → Tidy mostOpens (r .row .opens)
 settled-tidy e w r t g =
     let few : length (held (w .opens)) ≤ mostOpens = let f = t .few in omega (arith, tidy-count mostOpens (w .opens) t (omega arith)) in
-    stored⇒tidy mostOpens (r .row .opens) (settle e (rowOf w) .row .opens) (ap (λ (x : stored-row.Row). x .opens) (g .row))
-    (fits-law (settle e (rowOf w) .row) .0 (settle-fits e (rowOf w) (fits-law (rowOf w) .1 few)))
+    stored⇒tidy mostOpens (r .row .opens) (settle fits e (rowOf w) .row .opens) (ap (λ (x : stored-row.Row). x .opens) (g .row))
+    (fits-law (settle fits e (rowOf w) .row) .0 (settle-fits e (rowOf w) (fits-law (rowOf w) .1 few)))
 
 -- a known event is known among all roles that there may be
 pub known-64 : (l : List ℕ) → Sound l → (e : Happening) → T (known (stateOf l .roles) e) → T (known mostRoles e)

@@ -1,4 +1,4 @@
-// The calls on a lent area: open, reply, update, decide, forget.
+// The calls on a lent area: open, event, decide, forget.
 use area::AREA_BYTES;
 use area::MOST_ROWS;
 use area::check::check;
@@ -33,9 +33,12 @@ ghost use Rattle.rows.specs.Stored.{Tidy, rowOf, storedRow};
 ghost use Rattle.area.specs.State.{isBlank, rowFor, withRow, stateOf, areaOf};
 ghost use Rattle.table.specs.Table.{rowsIn, Sound, foundFor};
 ghost use Rattle.table.specs.declared.Found.the-variants.{At, Vacant};
-ghost use Rattle.calls.specs.Calls.{eventOf, openOf, replyOf, updateOf, decideOf, forgetOf};
+ghost use Rattle.calls.specs.Calls.{happened, eventIn, openOf, eventOf, decideOf, forgetOf};
 ghost use Rattle.calls.specs.Answers.{numberOf, Gives, decidedOf};
 ghost use Rattle.cache.specs.Fresh.{Fresh};
+
+// Kinds of event are 0 to this one.
+const LAST_KIND: u64 = 3;
 
 // ---- what the numbers of a call say
 
@@ -130,7 +133,7 @@ fn put_over(a: &mut [u8], i: usize, p: u32, w: Row)
 // An event about a permission with a row.
 fn enter_over(a: &mut [u8], i: usize, p: u32, e: Happening) -> Answer
     requires { ⌜ Sound (now a) × (foundFor p (rowsIn (now a)) ≡ At i) × T (known (stateOf (now a) .roles) e) ⌝ }
-    ensures { λ r. ⌜ Gives (eventOf (now (a .entry)) p e) r (now (a .exit)) ⌝ }
+    ensures { λ r. ⌜ Gives (eventIn (now (a .entry)) p e) r (now (a .exit)) ⌝ }
 {
     let settled = settle(row_at(a, i), e);
     let w = settled.row;
@@ -163,8 +166,8 @@ fn no_room(e: Happening) -> Answer
 
 // The first row of a permission, after the event e.
 fn put_new(a: &mut [u8], i: usize, p: u32, e: Happening, w: Row) -> Answer
-    requires { ⌜ Sound (now a) × (foundFor p (rowsIn (now a)) ≡ Vacant i) × Fresh (stateOf (now a) .roles) e w ⌝ }
-    ensures { λ r. ⌜ Gives (eventOf (now (a .entry)) p e) r (now (a .exit)) ⌝ }
+    requires { ⌜ Sound (now a) × (foundFor p (rowsIn (now a)) ≡ Vacant i) × Fresh e w ⌝ }
+    ensures { λ r. ⌜ Gives (eventIn (now (a .entry)) p e) r (now (a .exit)) ⌝ }
 {
     if is_blank(w) {
         return Answer::Recorded;
@@ -179,7 +182,7 @@ fn put_new(a: &mut [u8], i: usize, p: u32, e: Happening, w: Row) -> Answer
 // An event about a permission without a row: where it is not recorded there is nothing to change.
 fn enter_new(a: &mut [u8], i: usize, p: u32, e: Happening) -> Answer
     requires { ⌜ Sound (now a) × (foundFor p (rowsIn (now a)) ≡ Vacant i) × T (known (stateOf (now a) .roles) e) ⌝ }
-    ensures { λ r. ⌜ Gives (eventOf (now (a .entry)) p e) r (now (a .exit)) ⌝ }
+    ensures { λ r. ⌜ Gives (eventIn (now (a .entry)) p e) r (now (a .exit)) ⌝ }
 {
     let settled = settle(blank(), e);
     let w = settled.row;
@@ -194,55 +197,31 @@ fn enter_new(a: &mut [u8], i: usize, p: u32, e: Happening) -> Answer
 
 // The one way of every event.
 fn enter(a: &mut [u8], event: Event) -> Answer
-    requires { ⌜ Sound (now a) ⌝ }
-    ensures { λ r. ⌜ Gives (eventOf (now (a .entry)) (event .permission) (event .happening)) r (now (a .exit)) ⌝ }
+    requires { ⌜ Sound (now a) × T (known (stateOf (now a) .roles) (event .happening)) ⌝ }
+    ensures { λ r. ⌜ Gives (eventIn (now (a .entry)) (event .permission) (event .happening)) r (now (a .exit)) ⌝ }
 {
     let p = event.permission;
     let e = event.happening;
-    if !is_known(e, role_count(a)) {
-        return Answer::UnknownRole;
-    }
     match find(a, p) {
         Found::At(i) => enter_over(a, i, p, e),
         Found::Vacant(i) => enter_new(a, i, p, e),
     }
 }
 
-// Verdict 0 is deny, 1 allow.
-pub fn reply(a: &mut [u8], p: u32, verdict: u64, s: u64) -> Answer
-    ensures { λ r. ⌜ Gives (replyOf (now (a .entry)) p verdict s) r (now (a .exit)) ⌝ }
+// What happened, as kind and number say it.
+fn happened(kind: u64, number: u64) -> Happening
+    ensures { λ e. ⌜ e ≡ happened kind number ⌝ }
 {
-    if !check(a) {
-        return Answer::BadArea;
+    match kind {
+        0 => Happening::Deny(RoleSet { bits: number }),
+        1 => Happening::Allow(RoleSet { bits: number }),
+        2 => Happening::Withdrawn(number),
+        _ => Happening::Given(number),
     }
-    if p == 0 {
-        return Answer::NoPermission;
-    }
-    if 1 < verdict {
-        return Answer::BadVerdict;
-    }
-    let session = RoleSet { bits: s };
-    if verdict == 1 {
-        return enter(
-            a,
-            Event {
-                permission: p,
-                happening: Happening::Allow(session),
-            },
-        );
-    }
-    enter(
-        a,
-        Event {
-            permission: p,
-            happening: Happening::Deny(session),
-        },
-    )
 }
 
-// Kind 0 is withdrawn, 1 given.
-pub fn update(a: &mut [u8], p: u32, kind: u64, role: u64) -> Answer
-    ensures { λ r. ⌜ Gives (updateOf (now (a .entry)) p kind role) r (now (a .exit)) ⌝ }
+pub fn event(a: &mut [u8], p: u32, kind: u64, number: u64) -> Answer
+    ensures { λ r. ⌜ Gives (eventOf (now (a .entry)) p kind number) r (now (a .exit)) ⌝ }
 {
     if !check(a) {
         return Answer::BadArea;
@@ -250,23 +229,18 @@ pub fn update(a: &mut [u8], p: u32, kind: u64, role: u64) -> Answer
     if p == 0 {
         return Answer::NoPermission;
     }
-    if 1 < kind {
+    if LAST_KIND < kind {
         return Answer::BadVerdict;
     }
-    if kind == 1 {
-        return enter(
-            a,
-            Event {
-                permission: p,
-                happening: Happening::Given(role),
-            },
-        );
+    let e = happened(kind, number);
+    if !is_known(e, role_count(a)) {
+        return Answer::UnknownRole;
     }
     enter(
         a,
         Event {
             permission: p,
-            happening: Happening::Withdrawn(role),
+            happening: e,
         },
     )
 }

@@ -1,30 +1,29 @@
 -- The laws of the calls' definitions, refusal by refusal. Assumes nothing.
 use mathlib.Core.Path.{_≡_, refl, sym, ap, _∙_, subst, subst⁻¹}
-use mathlib.Core.Bool.{Bool, true, false, not, cond, _&&_, _||_, or-true}
+use mathlib.Core.Bool.{Bool, true, false, not, cond, _&&_, _||_, and-true, or-true}
 use mathlib.Core.List.{List, [], _∷_}
 use mathlib.Core.Logic.{_↔_, _≢_, ⊎-elim}
-use Prim.Native.Nat.{ℕ, _≤_, _<_}
+use Prim.Native.Nat.{ℕ, zero, suc, _≤_, _<_}
 use native.Mathlib.Nat.{lt-of-lt-of-le}
 use native.Mathlib.Omega.{arith}
-use borrow.Author.Tests.{eq-eqb, ne-eqb, le-leb, lt-ltb, le-ltb}
+use borrow.Author.Tests.{ne-eqb, le-leb, lt-leb, lt-ltb, le-ltb}
 use lib.Dec.{T, eqb, ltb, leb, leb→le, ltb→lt}
 use lib.ListN.{length}
 use lib.Pow.{pow-mono}
-use Rattle.roles.specs.Sets.{allBelow, Below, partOf, mostRoles}
-use Rattle.roles.specs.declared.RoleSet.{RoleSet}
+use Rattle.roles.specs.Sets.{single, allBelow, Below, partOf, mostRoles}
 use Rattle.roles.proofs.Tests.{T-and, T-or, unlike}
 use Rattle.roles.proofs.Laws.{partOf-allBelow}
 use Rattle.refusals.specs.Refusals.{refusal}
 use Rattle.refusals.proofs.Laws.{refuse-has}
 use Rattle.meaning.specs.declared.Happening.{Happening}
-use Rattle.meaning.specs.declared.Happening.the-variants.{Allow, Deny, Given, Withdrawn}
-use Rattle.meaning.specs.Events.{known, lastPermission, isReply}
-use Rattle.meaning.specs.Rows.{Row, blank, fits, contradicts, step, Decided, bare, decide}
+use Rattle.meaning.specs.declared.Happening.the-variants.{Given}
+use Rattle.meaning.specs.Events.{rolesIn, known, lastPermission, isReply}
+use Rattle.meaning.specs.Rows.{Row, blank, fits, contradicts, step, unchanged, forgotten, overflow, settle, Decided, bare, decide}
 use Rattle.meaning.proofs.Theorems.{ask-some, ask-none, ask-most}
 use Rattle.area.specs.Layout.{mostRows, areaBytes, goodBytes}
 use Rattle.area.specs.State.{State, opened, isBlank, rowFor, withRow, stateOf}
 use Rattle.area.proofs.Bytes.{good-state}
-use Rattle.calls.specs.Calls.{stays, writes, valid, fitsIn, areaRefusals, afterRefusal, eventOn, eventOf, replied, updated, eventFor, openOf, replyOf, updateOf, decideOf, forgetOf}
+use Rattle.calls.specs.Calls.{stays, writes, valid, fitsIn, areaRefusals, lastKind, happened, settledIn, eventOn, eventIn, eventOf, openOf, decideOf, forgetOf}
 
 pub valid-law : (p : ℕ) → T (valid p) ↔ ((1 ≤ p) × (p ≤ lastPermission))
 valid-law p = (
@@ -74,10 +73,14 @@ pub unfit : (s : State) (p : ℕ) (w : Row) → fits w ≡ false → fitsIn s p 
 unfolding fitsIn
 unfit s p w f = rw f
 
+-- where there is a row, another takes its place
+pub fitsIn-row : (s : State) (p : ℕ) (v : Row) → isBlank (rowFor p (s .rows)) ≡ false → fitsIn s p v ≡ fits v
+unfolding fitsIn
+fitsIn-row s p v h = rw h (ap (λ (b : Bool). fits v && b) (or-true (ltb (length (s .rows)) mostRows)) ∙ and-true (fits v))
+
 module _ (s : State) (p : ℕ) (v : Row) (f : fits v ≡ true) where
   pub fitsIn-over : isBlank (rowFor p (s .rows)) ≡ false → fitsIn s p v ≡ true
-  unfolding fitsIn
-  fitsIn-over h = rw (f, h) (or-true (ltb (length (s .rows)) mostRows))
+  fitsIn-over h = fitsIn-row s p v h ∙ f
 
   pub fitsIn-blank : isBlank v ≡ true → fitsIn s p v ≡ true
   unfolding fitsIn
@@ -98,68 +101,73 @@ module _ (s : State) (p : ℕ) (v : Row) (f : fits v ≡ true) where
       ∙ ap (λ (b : Bool). b || (not (isBlank (rowFor p (s .rows))) || isBlank v)) (le-ltb (length (s .rows)) mostRows m)
       ∙ ap (λ (b : Bool). not b || isBlank v) h ∙ k
 
--- ---- an event on a good area
+-- ---- an event of known roles on a good area
 
 module _ (l : List ℕ) (s : State) (p : ℕ) (e : Happening) (w : Row) where
-  pub event-unknown : known (s .roles) e ≡ false → eventOn l s p e w ≡ stays 4 l
-  unfolding eventOn
-  event-unknown k = rw k
+  pub event-contradicts : contradicts e w ≡ true → eventOn l s p e w ≡ stays 6 l
+  unfolding eventOn settle
+  event-contradicts c = rw c
 
-  module _ (k : known (s .roles) e ≡ true) where
-    pub event-contradicts : contradicts e w ≡ true → eventOn l s p e w ≡ stays 6 l
-    unfolding eventOn
-    event-contradicts c = rw (k, c)
+  pub event-unfit : contradicts e w ≡ false → fitsIn s p (step e w) ≡ false → eventOn l s p e w ≡ cond (isReply e) (stays 7 l) (writes 8 (withRow s p blank))
+  unfolding eventOn settle overflow
+  event-unfit c f = rw (c, f) (go (isReply e))
+    where
+      go : (b : Bool) → settledIn l s p (cond b (unchanged 7 w) forgotten) ≡ cond b (stays 7 l) (writes 8 (withRow s p blank))
+      go true = refl
+      go false = refl
 
-    pub event-unfit : contradicts e w ≡ false → fitsIn s p (step e w) ≡ false → eventOn l s p e w ≡ cond (isReply e) (stays 7 l) (writes 8 (withRow s p blank))
-    unfolding eventOn
-    event-unfit c f = rw (k, c, f) (go (isReply e))
-      where
-        go : (b : Bool) → afterRefusal l s p (cond b 7 8) ≡ cond b (stays 7 l) (writes 8 (withRow s p blank))
-        go true = refl
-        go false = refl
+  pub event-recorded : contradicts e w ≡ false → fitsIn s p (step e w) ≡ true → eventOn l s p e w ≡ writes 0 (withRow s p (step e w))
+  unfolding eventOn settle
+  event-recorded c f = rw (c, f)
 
-    pub event-recorded : contradicts e w ≡ false → fitsIn s p (step e w) ≡ true → eventOn l s p e w ≡ writes 0 (withRow s p (step e w))
-    unfolding eventOn
-    event-recorded c f = rw (k, c, f)
+-- ---- an event as its numbers say it
 
--- ---- a reply and an update
+module _ (l : List ℕ) (p k x : ℕ) where
+  pub event-bad-area : goodBytes l ≡ false → eventOf l p k x ≡ stays 1 l
+  unfolding eventOf
+  event-bad-area h = rw h
 
-pub reply-is : (l : List ℕ) (p v s : ℕ) → replyOf l p v s ≡ eventFor l p v (replied v s)
-unfolding replyOf
-reply-is l p v s = refl
+  module _ (h : goodBytes l ≡ true) where
+    pub event-no-permission : valid p ≡ false → eventOf l p k x ≡ stays 3 l
+    unfolding eventOf
+    event-no-permission v = rw (h, v)
 
-pub update-is : (l : List ℕ) (p v r : ℕ) → updateOf l p v r ≡ eventFor l p v (updated v r)
-unfolding updateOf
-update-is l p v r = refl
+    module _ (v : valid p ≡ true) where
+      pub event-bad-kind : leb k lastKind ≡ false → eventOf l p k x ≡ stays 5 l
+      unfolding eventOf
+      event-bad-kind u = rw (h, v, u)
 
-module _ (l : List ℕ) (p v : ℕ) (e : Happening) where
-  pub for-bad-area : goodBytes l ≡ false → eventFor l p v e ≡ stays 1 l
-  unfolding eventFor
-  for-bad-area h = rw h
+      module _ (u : leb k lastKind ≡ true) where
+        pub event-unknown : known (stateOf l .roles) (happened k x) ≡ false → eventOf l p k x ≡ stays 4 l
+        unfolding eventOf
+        event-unknown n = rw (h, v, u, n)
 
-  pub for-no-permission : goodBytes l ≡ true → valid p ≡ false → eventFor l p v e ≡ stays 3 l
-  unfolding eventFor
-  for-no-permission h k = rw (h, k)
+        pub event-known : known (stateOf l .roles) (happened k x) ≡ true → eventOf l p k x ≡ eventIn l p (happened k x)
+        unfolding eventOf
+        event-known n = rw (h, v, u, n)
 
-  pub for-bad-verdict : goodBytes l ≡ true → valid p ≡ true → leb v 1 ≡ false → eventFor l p v e ≡ stays 5 l
-  unfolding eventFor
-  for-bad-verdict h k u = rw (h, k, u)
+pub given-kind : (k x : ℕ) → (k ≡ 0 → ⊥) → (k ≡ 1 → ⊥) → (k ≡ 2 → ⊥) → happened k x ≡ Given x
+unfolding happened
+given-kind k x a b c = rw (ne-eqb k 0 a, ne-eqb k 1 b, ne-eqb k 2 c)
 
-  pub for-good : goodBytes l ≡ true → valid p ≡ true → leb v 1 ≡ true → eventFor l p v e ≡ eventOf l p e
-  unfolding eventFor
-  for-good h k u = rw (h, k, u)
+from-three : (k x : ℕ) → happened (suc (suc (suc k))) x ≡ Given x
+from-three k x = given-kind (suc (suc (suc k))) x (λ e. omega arith) (λ e. omega arith) (λ e. omega arith)
 
-pub replied-one : (v : ℕ) (s : RoleSet) → v ≡ 1 → replied v (s .bits) ≡ Allow s
-replied-one v s e = ap (λ (b : Bool). cond b (Allow s) (Deny s)) (eq-eqb v 1 e)
+-- kinds 0 and 1 are replies
+pub reply-kind : (k x : ℕ) → isReply (happened k x) ≡ leb k 1
+unfolding happened
+reply-kind zero x = refl
+reply-kind (suc zero) x = refl
+reply-kind (suc (suc zero)) x = refl
+reply-kind (suc (suc (suc k))) x = ap isReply (from-three k x) ∙ sym (lt-leb (suc (suc (suc k))) 1 (omega arith))
 
-pub replied-other : (v : ℕ) (s : RoleSet) → (v ≡ 1 → ⊥) → replied v (s .bits) ≡ Deny s
-replied-other v s e = ap (λ (b : Bool). cond b (Allow s) (Deny s)) (ne-eqb v 1 e)
-
-pub updated-one : (v r : ℕ) → v ≡ 1 → updated v r ≡ Given r
-updated-one v r e = ap (λ (b : Bool). cond b (Given r) (Withdrawn r)) (eq-eqb v 1 e)
-
-pub updated-other : (v r : ℕ) → (v ≡ 1 → ⊥) → updated v r ≡ Withdrawn r
-updated-other v r e = ap (λ (b : Bool). cond b (Given r) (Withdrawn r)) (ne-eqb v 1 e)
+-- their number is a set, that of the other kinds a role
+pub roles-kind : (k x : ℕ) → rolesIn (happened k x) ≡ cond (leb k 1) x (single x)
+unfolding happened rolesIn
+roles-kind zero x = refl
+roles-kind (suc zero) x = refl
+roles-kind (suc (suc zero)) x = refl
+roles-kind (suc (suc (suc k))) x = ap rolesIn (from-three k x) ∙ sym (ap (λ (b : Bool). cond b x (single x)) (lt-leb (suc (suc (suc k))) 1 (omega arith)))
 
 -- ---- a decision
 

@@ -3,10 +3,10 @@ use mathlib.Core.Path.{_≡_, refl, sym, ap, ap₂, _∙_, subst, subst⁻¹}
 use mathlib.Core.Bool.{Bool, true, false, not, cond}
 use mathlib.Core.List.{List}
 use mathlib.Core.Logic.{_↔_, Iff·trans}
-use Prim.Native.Nat.{ℕ, _^_, _≤_}
+use Prim.Native.Nat.{ℕ, _≤_}
 use native.Mathlib.Omega.{arith}
 use borrow.Author.Tests.{ne-eqb}
-use lib.Dec.{T, T-not, leb→le}
+use lib.Dec.{T, T-not}
 use Rattle.roles.specs.Sets.{mostRoles, allBelow, Below, partOf}
 use Rattle.roles.proofs.Tests.{unlike}
 use Rattle.roles.proofs.Laws.{partOf-allBelow}
@@ -17,13 +17,13 @@ use Rattle.meaning.proofs.Theorems.{row-decides, row-asks, ask-one, trail-contr
 use Rattle.area.specs.Layout.{goodBytes}
 use Rattle.area.specs.State.{State, GoodState, rowFor, stateOf, areaOf}
 use Rattle.area.proofs.Bytes.{area-good, area-state}
-use Rattle.calls.specs.Calls.{valid, replied, replyOf, decideOf}
-use Rattle.calls.specs.Histories.{Call, opening, reply, update, ask, forget, outOf, trailOn, trailAfter, rolesAfter, History, next}
+use Rattle.calls.specs.Calls.{valid, happened, eventOf, decideOf}
+use Rattle.calls.specs.Histories.{Call, opening, event, ask, forget, outOf, trailOn, trailAfter, rolesAfter, History, next}
 use Rattle.calls.specs.Demands as demands
 use Rattle.calls.proofs.CallLaws.{valid-law, decide-no-permission, decide-unknown, decide-bare, decide-asks}
 use Rattle.calls.proofs.Outcomes.{area-is-good, decide-on}
 use Rattle.calls.proofs.Invariant.{Holds, next-holds, begun-holds}
-use Rattle.calls.proofs.Grounds.{unknown-reply, demand-1}
+use Rattle.calls.proofs.Grounds.{unknown-event, demand-1}
 
 -- what decide answers on an area that holds
 decided : (h : History) (k : Holds h) (p s : ℕ) → T (valid p) → Below (h .roles) s → decideOf (h .area) p s ≡ decide (rowAfter blank (h .trail p)) s
@@ -83,8 +83,7 @@ whom = record {
 pub other-stays : (c : Call) (q a n : ℕ) (t : List Happening) → ¬ (demands.About q c) → (rolesAfter c a n ≡ n) × (trailAfter q c a t ≡ t)
 unfolding rolesAfter trailAfter trailOn
 other-stays (opening m) q a n t d = absurd (d tt)
-other-stays (reply p v s) q a n t d = (refl, rw (ne-eqb p q d))
-other-stays (update p k r) q a n t d = (refl, rw (ne-eqb p q d))
+other-stays (event p k x) q a n t d = (refl, rw (ne-eqb p q d))
 other-stays (ask p s) q a n t d = (refl, refl)
 other-stays (forget p) q a n t d = (refl, rw (ne-eqb p q d))
 
@@ -104,15 +103,15 @@ no-other h g c q s d =
 
 -- demand 1 has 6 exactly on a contradiction with the row that the area holds
 pub contradicted : demands.Contradicted
-contradicted h g p v s ok b kn =
+contradicted h g p i x ok b kn =
     let k = begun-holds g in
     let a : List ℕ = h .area in
     let t : List Happening = h .trail p in
-    let e : Happening = replied v s in
+    let e : Happening = happened i x in
     let st : stateOf a ≡ k .state = ap stateOf (k .area) ∙ area-state (k .state) (k .good) in
-    let good : T (goodBytes a) = subst⁻¹ (λ (x : List ℕ). T (goodBytes x)) (k .area) (area-good (k .state) (k .good)) in
-    let below : ¬ (2 ^ stateOf a .roles ≤ s) = λ u. T-not (known (h .roles) (replied v s)) (unknown-reply (h .roles) v s .1 (subst (λ (m : ℕ). 2 ^ m ≤ s) (ap (λ (x : State). x .roles) st ∙ k .roles) u)) kn in
-    let row : rowFor p (stateOf a .rows) ≡ rowAfter blank t = ap (λ (x : State). rowFor p (x .rows)) st ∙ k .rows p in
-    let six : (replyOf a p v s .answer ≡ 6) ↔ T (contradicts e (rowFor p (stateOf a .rows))) =
-    demand-1 .reply-answers a p v s .exactly .1 (λ u. u good) .1 (λ u. u (valid-law p .0 ok)) .1 (λ u. let w : v ≤ 1 = leb→le v 1 b in omega arith) .1 below .0 in
-    Iff·trans (subst (λ (w : Row). (replyOf a p v s .answer ≡ 6) ↔ T (contradicts e w)) row six) (trail-contradicts (h .roles) t (k .trail-recorded p) e kn)
+    let good : T (goodBytes a) = subst⁻¹ (λ (y : List ℕ). T (goodBytes y)) (k .area) (area-good (k .state) (k .good)) in
+    let is-known : ¬ (demands.Unknown (stateOf a .roles) i x) = λ u. T-not (known (h .roles) e) (unknown-event (h .roles) i x .1 (subst (λ (m : ℕ). demands.Unknown m i x) (ap (λ (y : State). y .roles) st ∙ k .roles) u)) kn in
+    let row : rowFor p (stateOf a .rows) ≡ rowAfter blank t = ap (λ (y : State). rowFor p (y .rows)) st ∙ k .rows p in
+    let six : (eventOf a p i x .answer ≡ 6) ↔ T (contradicts e (rowFor p (stateOf a .rows))) =
+    demand-1 .event-answers a p i x .exactly .1 (λ u. u good) .1 (λ u. u (valid-law p .0 ok)) .1 (λ u. omega arith) .1 is-known .0 in
+    Iff·trans (subst (λ (w : Row). (eventOf a p i x .answer ≡ 6) ↔ T (contradicts e w)) row six) (trail-contradicts (h .roles) t (k .trail-recorded p) e kn)

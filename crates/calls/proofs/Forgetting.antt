@@ -13,9 +13,9 @@ use Rattle.area.specs.Layout.{goodBytes}
 use Rattle.area.specs.State.{State, Entry, withRows, isBlank, rowFor, withRow, stateOf, areaOf}
 use Rattle.area.proofs.RowLaws.{Hit, hit-law, put-not, rowFor-put-same}
 use Rattle.area.proofs.Bytes.{area-state, good-state, good-area}
-use Rattle.calls.specs.Calls.{Out, stays, writes, valid, fitsIn, updated, eventFor, updateOf, forgetOf}
+use Rattle.calls.specs.Calls.{Out, stays, writes, valid, fitsIn, lastKind, happened, eventIn, eventOf, forgetOf}
 use Rattle.calls.specs.Demands as demands
-use Rattle.calls.proofs.CallLaws.{event-unknown, event-contradicts, event-unfit, event-recorded, update-is, for-bad-area, for-no-permission, for-bad-verdict, for-good, forget-bad-area, forget-no-permission, forget-forgets}
+use Rattle.calls.proofs.CallLaws.{event-contradicts, event-unfit, event-recorded, event-bad-area, event-no-permission, event-bad-kind, event-unknown, event-known, forget-bad-area, forget-no-permission, forget-forgets}
 use Rattle.calls.proofs.Outcomes.{drop-state}
 
 module _ (l : List ℕ) (p : ℕ) where
@@ -50,41 +50,42 @@ module _ (l : List ℕ) (p : ℕ) where
       go true h true k e = record { good = h; ok = k; is = forget-forgets l p h k }
 
   -- refusal by refusal: only what does not fit is answered 8
-  module _ (k r : ℕ) where
+  module _ (k x : ℕ) where
     abbrev e : Happening
-    e = updated k r
+    e = happened k x
 
     abbrev w : Row
     w = rowFor p (stateOf l .rows)
 
-    update-drops : updateOf l p k r .answer ≡ 8 → Dropped (updateOf l p k r) 8
-    update-drops = go (goodBytes l) refl (valid p) refl (leb k 1) refl (known (s .roles) e) refl (contradicts e w) refl (fitsIn s p (step e w)) refl
+    event-drops : eventOf l p k x .answer ≡ 8 → Dropped (eventOf l p k x) 8
+    event-drops = go (goodBytes l) refl (valid p) refl (leb k lastKind) refl (known (s .roles) e) refl
       where
         Goal : Out → Type 0
         Goal o = o .answer ≡ 8 → Dropped o 8
 
-        by : (o : Out) → eventFor l p k e ≡ o → Goal o → Goal (updateOf l p k r)
-        by o q = subst⁻¹ Goal (update-is l p k r ∙ q)
+        by : (o : Out) → eventOf l p k x ≡ o → Goal o → Goal (eventOf l p k x)
+        by o q = subst⁻¹ Goal q
 
         unfit : (b : Bool) → goodBytes l ≡ true → valid p ≡ true → Goal (cond b (stays 7 l) (writes 8 (withRow s p blank)))
         unfit true h v q = unlike tt q
         unfit false h v q = record { good = h; ok = v; is = refl }
 
-        go : (a : Bool) → goodBytes l ≡ a → (b : Bool) → valid p ≡ b → (c : Bool) → leb k 1 ≡ c → (d : Bool) → known (s .roles) e ≡ d → (f : Bool) → contradicts e w ≡ f
-            → (g : Bool) → fitsIn s p (step e w) ≡ g → Goal (updateOf l p k r)
-        go false h b v c x d y f z g i = by (stays 1 l) (for-bad-area l p k e h) (unlike tt)
-        go true h false v c x d y f z g i = by (stays 3 l) (for-no-permission l p k e h v) (unlike tt)
-        go true h true v false x d y f z g i = by (stays 5 l) (for-bad-verdict l p k e h v x) (unlike tt)
-        go true h true v true x false y f z g i = by (stays 4 l) (for-good l p k e h v x ∙ event-unknown l s p e w y) (unlike tt)
-        go true h true v true x true y true z g i = by (stays 6 l) (for-good l p k e h v x ∙ event-contradicts l s p e w y z) (unlike tt)
-        go true h true v true x true y false z true i = by (writes 0 (withRow s p (step e w))) (for-good l p k e h v x ∙ event-recorded l s p e w y z i) (unlike tt)
-        go true h true v true x true y false z false i =
-            by (cond (isReply e) (stays 7 l) (writes 8 (withRow s p blank))) (for-good l p k e h v x ∙ event-unfit l s p e w y z i) (unfit (isReply e) h v)
+        on-row : goodBytes l ≡ true → valid p ≡ true → eventOf l p k x ≡ eventIn l p e → (c : Bool) → contradicts e w ≡ c → (f : Bool) → fitsIn s p (step e w) ≡ f → Goal (eventOf l p k x)
+        on-row h v q true c f i = by (stays 6 l) (q ∙ event-contradicts l s p e w c) (unlike tt)
+        on-row h v q false c true i = by (writes 0 (withRow s p (step e w))) (q ∙ event-recorded l s p e w c i) (unlike tt)
+        on-row h v q false c false i = by (cond (isReply e) (stays 7 l) (writes 8 (withRow s p blank))) (q ∙ event-unfit l s p e w c i) (unfit (isReply e) h v)
+
+        go : (a : Bool) → goodBytes l ≡ a → (b : Bool) → valid p ≡ b → (c : Bool) → leb k lastKind ≡ c → (d : Bool) → known (s .roles) e ≡ d → Goal (eventOf l p k x)
+        go false h b v c u d n = by (stays 1 l) (event-bad-area l p k x h) (unlike tt)
+        go true h false v c u d n = by (stays 3 l) (event-no-permission l p k x h v) (unlike tt)
+        go true h true v false u d n = by (stays 5 l) (event-bad-kind l p k x h v u) (unlike tt)
+        go true h true v true u false n = by (stays 4 l) (event-unknown l p k x h v u n) (unlike tt)
+        go true h true v true u true n = on-row h v (event-known l p k x h v u n) (contradicts e w) refl (fitsIn s p (step e w)) refl
 
 pub forgetting : demands.Forgetting
 forgetting = record {
-  update-gone = λ l p k r a. gone l p (updateOf l p k r) 8 (update-drops l p k r a);
+  event-gone = λ l p k x a. gone l p (eventOf l p k x) 8 (event-drops l p k x a);
   forget-gone = λ l p a. gone l p (forgetOf l p) 0 (forget-drops l p a);
-  update-unchanged = λ l b p k r n a. unchanged l p b n (updateOf l p k r) 8 (update-drops l p k r a);
+  event-unchanged = λ l b p k x n a. unchanged l p b n (eventOf l p k x) 8 (event-drops l p k x a);
   forget-unchanged = λ l b p n a. unchanged l p b n (forgetOf l p) 0 (forget-drops l p a);
 }

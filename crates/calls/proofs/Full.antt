@@ -6,7 +6,7 @@ use mathlib.Core.Logic.{_↔_, _≢_, inl, inr, ⊎-elim, Iff·trans, Iff·symm}
 use Prim.Native.Nat.{ℕ, _≤_}
 use native.Mathlib.Decide.{ℕ-discrete}
 use native.Mathlib.Omega.{arith}
-use lib.Dec.{T, eqb, leb}
+use lib.Dec.{T, eqb, leb, le→leb}
 use lib.ListN.{length}
 use Rattle.roles.proofs.Tests.{T?, T-true, T-false, unlike}
 use Rattle.meaning.specs.declared.Happening.{Happening}
@@ -19,13 +19,12 @@ use Rattle.meaning.proofs.Theorems.{step-leaves, contradicts-law, step-good, ro
 use Rattle.area.specs.Layout.{mostRows}
 use Rattle.area.specs.State.{State, Entry, GoodState, isBlank, rowFor, put, withRow, areaOf}
 use Rattle.area.proofs.RowLaws.{hit-law, hit?, rowFor-good, rowFor-few, rowFor-put-same, rowFor-put-other, put-good, length-put-new, rows-ext}
-use Rattle.calls.specs.Calls.{Out, stays, writes, valid, fitsIn, eventOn, replied, updated, eventFor}
+use Rattle.calls.specs.Calls.{Out, stays, writes, valid, fitsIn, lastKind, happened, eventOn, eventOf}
 use Rattle.calls.specs.Histories.{History}
 use Rattle.calls.specs.Demands as demands
-use Rattle.calls.proofs.CallLaws.{valid-law, fitsIn-over, fitsIn-blank, fitsIn-room, event-contradicts, event-unfit, event-recorded, reply-is, update-is, for-good}
-use Rattle.calls.proofs.Outcomes.{put-state, area-is-good, event-is}
+use Rattle.calls.proofs.CallLaws.{valid-law, fitsIn-over, fitsIn-blank, fitsIn-room, event-contradicts, event-unfit, event-recorded, reply-kind}
+use Rattle.calls.proofs.Outcomes.{put-state, event-is}
 use Rattle.calls.proofs.Invariant.{Holds, trailOn-recorded, trailOn-other, begun-holds}
-use Rattle.calls.proofs.Grounds.{reply-kind, update-kind}
 
 -- ---- an event about p on an area that holds
 
@@ -133,16 +132,13 @@ module _ (h : History) (k : Holds h) (p : ℕ) (v : T (valid p)) (e : Happening)
       → demands.Said n p t (eventOn (areaOf s) s p e w .answer) b
   said b x y z = go (contradicts e w) refl (fitsIn s p w′) refl
     where
-      kn′ : known (s .roles) e ≡ true
-      kn′ = T-true (known (s .roles) e) (subst⁻¹ (λ (m : ℕ). T (known m e)) (k .roles) kn)
-
       is : (o : Out) → eventOn (areaOf s) s p e w ≡ o → demands.Said n p t (o .answer) b → demands.Said n p t (eventOn (areaOf s) s p e w .answer) b
       is o q r = subst⁻¹ (λ (u : Out). demands.Said n p t (u .answer) b) q r
 
       go : (c : Bool) → contradicts e w ≡ c → (f : Bool) → fitsIn s p w′ ≡ f → demands.Said n p t (eventOn (areaOf s) s p e w .answer) b
       go true c f q =
           let none : (i : ℕ) → ¬ (Possible n (t p) i) = nothing (subst⁻¹ T c tt) in
-          is (stays 6 (areaOf s)) (event-contradicts (areaOf s) s p e w kn′ c) (record {
+          is (stays 6 (areaOf s)) (event-contradicts (areaOf s) s p e w c) (record {
             one-of = inr (inl refl);
             recorded = (unlike tt, (λ u. absurd (nothing-unsayable none u)));
             contradiction = ((λ u. none), (λ u. refl));
@@ -150,7 +146,7 @@ module _ (h : History) (k : Holds h) (p : ℕ) (v : T (valid p)) (e : Happening)
           })
       go false c true q =
           let agreed : T (not (contradicts e w)) = subst⁻¹ (λ (i : Bool). T (not i)) c tt in
-          is (writes 0 (withRow s p w′)) (event-recorded (areaOf s) s p e w kn′ c q) (record {
+          is (writes 0 (withRow s p w′)) (event-recorded (areaOf s) s p e w c q) (record {
             one-of = inl refl;
             recorded = ((λ u. fits-said agreed q), (λ u. refl));
             contradiction = (unlike tt, (λ u. absurd (u (something agreed .0) (something agreed .1))));
@@ -159,27 +155,27 @@ module _ (h : History) (k : Holds h) (p : ℕ) (v : T (valid p)) (e : Happening)
       go false c false q =
           let agreed : T (not (contradicts e w)) = subst⁻¹ (λ (i : Bool). T (not i)) c tt in
           let not-said : ¬ (demands.Sayable n t) = λ u. let m : _≡_ {A = ℕ} 0 1 = cc (said-fits agreed u) in omega arith in
-          is (cond (isReply e) (stays 7 (areaOf s)) (writes 8 (withRow s p blank))) (event-unfit (areaOf s) s p e w kn′ c q) (subst⁻¹ (λ (a : ℕ). demands.Said n p t a b) z (record {
+          is (cond (isReply e) (stays 7 (areaOf s)) (writes 8 (withRow s p blank))) (event-unfit (areaOf s) s p e w c q) (subst⁻¹ (λ (a : ℕ). demands.Said n p t a b) z (record {
             one-of = inr (inr refl);
             recorded = ((λ u. unlike x (sym u)), (λ u. absurd (not-said u)));
             contradiction = ((λ u. unlike y (sym u)), (λ u. absurd (u (something agreed .0) (something agreed .1))));
             unsayable = ((λ u. (something agreed, not-said)), (λ u. refl));
           }))
 
-  -- the event by its call
-  event-said : (i b : ℕ) → T (leb i 1) → T (not (eqb 0 b)) → T (not (eqb 6 b)) → cond (isReply e) (stays 7 (areaOf s)) (writes 8 (withRow s p blank)) .answer ≡ b
-      → demands.Said n p t (eventFor (h .area) p i e .answer) b
-  event-said i b ok x y z =
-      subst⁻¹ (λ (o : Out). demands.Said n p t (o .answer) b)
-      (ap (λ (l : List ℕ). eventFor l p i e) (k .area) ∙ for-good (areaOf s) p i e (area-is-good s (k .good)) (T-true (valid p) v) (T-true (leb i 1) ok) ∙ event-is s (k .good) p e)
-      (said b x y z)
-
 pub full : demands.Full
-full = record {
-  reply-said = λ h g p v s ok b kn.
-      subst⁻¹ (λ (o : Out). demands.Said (h .roles) p (demands.trailsWith h p (replied v s)) (o .answer) 7) (reply-is (h .area) p v s)
-      (event-said h (begun-holds g) p ok (replied v s) kn v 7 b tt tt (rw (reply-kind v s)));
-  update-said = λ h g p u r ok b kn.
-      subst⁻¹ (λ (o : Out). demands.Said (h .roles) p (demands.trailsWith h p (updated u r)) (o .answer) 8) (update-is (h .area) p u r)
-      (event-said h (begun-holds g) p ok (updated u r) kn u 8 b tt tt (rw (update-kind u r)));
-}
+full h g p i x ok b kn =
+    let k = begun-holds g in
+    let s : State = k .state in
+    let e : Happening = happened i x in
+    let kn′ : T (known (s .roles) e) = subst⁻¹ (λ (m : ℕ). T (known m e)) (k .roles) kn in
+    subst⁻¹ (λ (o : Out). demands.Said (h .roles) p (demands.trailsWith h p e) (o .answer) (demands.noRoom i))
+    (ap (λ (l : List ℕ). eventOf l p i x) (k .area) ∙ event-is s (k .good) p i x ok (le→leb i lastKind b) kn′)
+    (said h k p ok e kn (demands.noRoom i) (other (leb i 1) .0) (other (leb i 1) .1) (unfit s (isReply e) ∙ ap (λ (r : Bool). cond r 7 8) (reply-kind i x)))
+  where
+    other : (r : Bool) → T (not (eqb 0 (cond r 7 8))) × T (not (eqb 6 (cond r 7 8)))
+    other true = (tt, tt)
+    other false = (tt, tt)
+
+    unfit : (s : State) (r : Bool) → cond r (stays 7 (areaOf s)) (writes 8 (withRow s p blank)) .answer ≡ cond r 7 8
+    unfit s true = refl
+    unfit s false = refl

@@ -1,12 +1,12 @@
 -- Demand 1: each answer exactly on its ground. Assumes nothing.
-use mathlib.Core.Path.{_≡_, refl, _∙_, subst⁻¹}
-use mathlib.Core.Bool.{Bool, true, false, not, cond, _&&_, _||_}
+use mathlib.Core.Path.{_≡_, refl, ap, _∙_, subst⁻¹}
+use mathlib.Core.Bool.{Bool, true, false, not, cond, _&&_}
 use mathlib.Core.List.{List, [], _∷_}
 use mathlib.Core.Logic.{_↔_, _≢_, inl, inr, ⊎-elim}
 use Prim.Native.Nat.{ℕ, _^_, _≤_, _<_}
 use native.Mathlib.Omega.{arith}
 use borrow.Author.Tests.{eq-eqb, ne-eqb}
-use lib.Dec.{T, T-not, not-T, eqb, leb, eqb→eq, leb→le, le→leb}
+use lib.Dec.{T, T-not, not-T, eqb, leb, eqb→eq, leb→le, le→leb, nleb→lt}
 use lib.ListN.{length}
 use Rattle.roles.specs.Sets.{single, allBelow, partOf, mostRoles}
 use Rattle.roles.proofs.Tests.{T?, T-and, T-true, T-false, not-test}
@@ -14,17 +14,16 @@ use Rattle.roles.proofs.Laws.{partOf-allBelow, single-below, below-single}
 use Rattle.refusals.specs.Refusals.{Refusal, refusal, refuse, Ground, ground, Exactly}
 use Rattle.refusals.proofs.Laws.{lacks, distinct, Tests, refuse-has, refuse-exactly}
 use Rattle.meaning.specs.declared.Happening.{Happening}
-use Rattle.meaning.specs.declared.Happening.the-variants.{Allow, Deny, Given, Withdrawn}
-use Rattle.meaning.specs.Events.{rolesIn, known, Verdict, isReply}
-use Rattle.meaning.specs.Rows.{Row, blank, contradicts, step, fits, bare, decide}
+use Rattle.meaning.specs.Events.{known, Verdict, isReply}
+use Rattle.meaning.specs.Rows.{Row, blank, contradicts, step, fits, unchanged, forgotten, overflow, settle, bare, decide}
 use Rattle.meaning.proofs.Answers.{fits-law}
 use Rattle.meaning.proofs.Theorems.{one-of-three}
 use Rattle.area.specs.Layout.{mostRows, areaBytes, goodBytes}
 use Rattle.area.specs.State.{State, opened, isBlank, rowFor, withRow, stateOf}
-use Rattle.calls.specs.Calls.{Out, stays, writes, valid, fitsIn, openRefusals, areaRefusals, eventRefusals, noRoom, afterRefusal, eventOn, replied, updated, eventFor, openOf, decideOf, forgetOf}
+use Rattle.calls.specs.Calls.{Out, stays, writes, valid, fitsIn, openRefusals, areaRefusals, lastKind, happened, eventRefusals, settledIn, eventOn, eventOf, openOf, decideOf, forgetOf}
 use Rattle.calls.specs.Histories.{outOf}
-use Rattle.calls.specs.Demands.{OnGrounds, IsRecorded, areaGrounds, NoPlace, eventGrounds, Demand1}
-use Rattle.calls.proofs.CallLaws.{valid-law, fitsIn-law, fitsIn-over, fitsIn-blank, fitsIn-room, reply-is, update-is}
+use Rattle.calls.specs.Demands.{OnGrounds, IsRecorded, areaGrounds, Unknown, NoPlace, noRoom, eventGrounds, Demand1}
+use Rattle.calls.proofs.CallLaws.{valid-law, fitsIn-law, fitsIn-over, fitsIn-blank, fitsIn-room, reply-kind, roles-kind}
 
 -- ---- what the tests say
 
@@ -37,8 +36,8 @@ among a b n = (
   λ h. T-and (leb a n) (leb n b) .1 (le→leb a n (h .0), le→leb n b (h .1)),
 )
 
-two-kinds : (v : ℕ) → T (not (leb v 1)) ↔ (1 < v)
-two-kinds v = ((λ t. let h : ¬ (v ≤ 1) = λ k. T-not (leb v 1) t (le→leb v 1 k) in omega (arith, h)), λ h. not-T (leb v 1) (λ t. let k : v ≤ 1 = leb→le v 1 t in omega arith))
+bad-kind : (k : ℕ) → T (not (leb k lastKind)) ↔ (3 < k)
+bad-kind k = ((λ t. let h : ¬ (k ≤ 3) = λ u. T-not (leb k 3) t (le→leb k 3 u) in omega (arith, h)), λ h. not-T (leb k 3) (λ t. let u : k ≤ 3 = leb→le k 3 t in omega arith))
 
 unknown-set : (n s : ℕ) → T (not (partOf s (allBelow n))) ↔ (2 ^ n ≤ s)
 unknown-set n s = over s (2 ^ n) (partOf s (allBelow n)) (partOf-allBelow n s)
@@ -46,29 +45,17 @@ unknown-set n s = over s (2 ^ n) (partOf s (allBelow n)) (partOf-allBelow n s)
 unknown-role : (n r : ℕ) → T (not (partOf (single r) (allBelow n))) ↔ (n ≤ r)
 unknown-role n r = over r n (partOf (single r) (allBelow n)) ((λ t. below-single n r (partOf-allBelow n (single r) .0 t)), λ h. partOf-allBelow n (single r) .1 (single-below n r h))
 
-roles-replied : (v s : ℕ) → rolesIn (replied v s) ≡ s
-unfolding rolesIn
-roles-replied v s = go (eqb v 1)
-  where
-    go : (b : Bool) → rolesIn (cond b (Allow (record { bits = s })) (Deny (record { bits = s }))) ≡ s
-    go true = refl
-    go false = refl
-
-roles-updated : (k r : ℕ) → rolesIn (updated k r) ≡ single r
-unfolding rolesIn
-roles-updated k r = go (eqb k 1)
-  where
-    go : (b : Bool) → rolesIn (cond b (Given r) (Withdrawn r)) ≡ single r
-    go true = refl
-    go false = refl
-
-pub unknown-reply : (n v s : ℕ) → T (not (known n (replied v s))) ↔ (2 ^ n ≤ s)
+pub unknown-event : (n k x : ℕ) → T (not (known n (happened k x))) ↔ Unknown n k x
 unfolding known
-unknown-reply n v s = rw (roles-replied v s) (unknown-set n s)
-
-unknown-update : (n k r : ℕ) → T (not (known n (updated k r))) ↔ (n ≤ r)
-unfolding known
-unknown-update n k r = rw (roles-updated k r) (unknown-role n r)
+unknown-event n k x = rw (roles-kind k x) (go (leb k 1) refl)
+  where
+    go : (b : Bool) → leb k 1 ≡ b → T (not (partOf (cond b x (single x)) (allBelow n))) ↔ Unknown n k x
+    go true e =
+        let few : k ≤ 1 = leb→le k 1 (subst⁻¹ T e tt) in
+        ((λ t. inl (few, unknown-set n x .0 t)), ⊎-elim (λ u. unknown-set n x .1 (u .1)) (λ u. absurd (let many : 1 < k = u .0 in let z : ⊥ = omega arith in z)))
+    go false e =
+        let many : 1 < k = nleb→lt k 1 (subst⁻¹ (λ (b : Bool). T (not b)) e tt) in
+        ((λ t. inr (many, unknown-role n x .0 t)), ⊎-elim (λ u. absurd (let few : k ≤ 1 = u .0 in let z : ⊥ = omega arith in z)) (λ u. unknown-role n x .1 (u .1)))
 
 module _ (s : State) (p : ℕ) (w : Row) where
   -- where a row that is not too long has no place, it would be a new one, and 128 are used
@@ -109,39 +96,62 @@ recorded l s x y = absurd (x refl)
 area-tests : (l : List ℕ) (p : ℕ) (rs : List Refusal) (gs : List Ground) → Tests rs gs → Tests (areaRefusals l p rs) (areaGrounds l p gs)
 area-tests l p rs gs t = (refl, not-test (goodBytes l) (T (goodBytes l)) ((λ x. x), (λ x. x)), (refl, not-test (valid p) _ (valid-law p), t))
 
--- an event that came in with the verdict or the kind v
-module _ (l : List ℕ) (p v : ℕ) (e : Happening) (unknown : Type 0) (k : T (not (known (stateOf l .roles) e)) ↔ unknown) where
+module _ (l : List ℕ) (p k x : ℕ) where
   abbrev s : State
   s = stateOf l
 
   abbrev w : Row
   w = rowFor p (stateOf l .rows)
 
-  after-says : (a : ℕ) → afterRefusal l s p a .answer ≡ a
-  after-says a = go (eqb a 8)
+  abbrev e : Happening
+  e = happened k x
+
+  -- 8 takes the row away, the others leave every byte
+  left : ℕ → Out
+  left a = cond (eqb a 8) (writes a (withRow s p blank)) (stays a l)
+
+  left-says : (a : ℕ) → left a .answer ≡ a
+  unfolding left
+  left-says a = go (eqb a 8)
     where
       go : (b : Bool) → cond b (writes a (withRow s p blank)) (stays a l) .answer ≡ a
       go true = refl
       go false = refl
 
-  after-leaves : (a : ℕ) → a ≢ 8 → afterRefusal l s p a .area ≡ l
-  after-leaves a d = rw (ne-eqb a 8 d)
+  left-alone : (a : ℕ) → a ≢ 8 → left a .area ≡ l
+  unfolding left
+  left-alone a d = rw (ne-eqb a 8 d)
 
-  -- behind bad area and no permission
+  -- behind bad area and no permission: the refusals of the numbers, then those of the row
   abbrev own : List Refusal
-  own = refusal 5 (not (leb v 1)) ∷ eventRefusals (stateOf l) p e (rowFor p (stateOf l .rows))
+  own =
+      refusal 5 (not (leb k lastKind))
+      ∷ refusal 4 (not (known (stateOf l .roles) e))
+      ∷ refusal 6 (contradicts e w)
+      ∷ refusal (cond (isReply e) 7 8) (not (fitsIn (stateOf l) p (step e w)))
+      ∷ []
 
-  abbrev own-grounds : ℕ → List Ground
-  own-grounds b = ground 5 (1 < v) ∷ ground 4 unknown ∷ ground 6 (T (contradicts e w)) ∷ ground b (NoPlace s p (step e w)) ∷ []
+  abbrev own-grounds : List Ground
+  own-grounds = ground 5 (3 < k) ∷ ground 4 (Unknown (s .roles) k x) ∷ ground 6 (T (contradicts e w)) ∷ ground (noRoom k) (NoPlace s p (step e w)) ∷ []
 
-  -- b is 7 for a reply and 8 for an update
-  event-answers : (b : ℕ) → noRoom e ≡ b → OnGrounds l (eventFor l p v e) (eventGrounds l p v e unknown b) IsRecorded
-  unfolding eventFor eventOn
-  event-answers b z =
-      on-grounds l (afterRefusal l s p) after-says after-leaves IsRecorded (writes 0 (withRow s p (step e w))) refl (recorded l (withRow s p (step e w)))
-      (areaRefusals l p own) (areaGrounds l p (own-grounds b))
-      (area-tests l p own (own-grounds b) (refl, two-kinds v, (refl, k, (refl, ((λ x. x), (λ x. x)), (z, no-place s p (step e w), tt)))))
-      (all-distinct (isReply e)) (none-zero (isReply e))
+  one-list : eventOf l p k x ≡ refuse (areaRefusals l p own) left (writes 0 (withRow s p (step e w)))
+  unfolding eventOf eventOn settle overflow left
+  one-list = ap (λ (o : Out). refuse (eventRefusals l p k e) (λ a. stays a l) o) (go (contradicts e w) (fitsIn s p (step e w)) (isReply e))
+    where
+      go : (c f r : Bool) → settledIn l s p (cond c (unchanged 6 w) (cond f (record { answer = 0; row = step e w }) (cond r (unchanged 7 w) forgotten)))
+          ≡ cond c (left 6) (cond (not f) (left (cond r 7 8)) (writes 0 (withRow s p (step e w))))
+      go true f r = refl
+      go false true r = refl
+      go false false true = refl
+      go false false false = refl
+
+  event-answers : OnGrounds l (eventOf l p k x) (eventGrounds l p k x) IsRecorded
+  event-answers =
+      subst⁻¹ (λ (o : Out). OnGrounds l o (eventGrounds l p k x) IsRecorded) one-list
+      (on-grounds l left left-says left-alone IsRecorded (writes 0 (withRow s p (step e w))) refl (recorded l (withRow s p (step e w)))
+      (areaRefusals l p own) (eventGrounds l p k x)
+      (area-tests l p own own-grounds (refl, bad-kind k, (refl, unknown-event (s .roles) k x, (refl, ((λ t. t), (λ t. t)), (ap (λ (b : Bool). cond b 7 8) (reply-kind k x), no-place s p (step e w), tt)))))
+      (all-distinct (isReply e)) (none-zero (isReply e)))
     where
       -- whether it is 7 or 8, no other refusal has the number
       of : (b : Bool) → List Refusal
@@ -154,20 +164,6 @@ module _ (l : List ℕ) (p v : ℕ) (e : Happening) (unknown : Type 0) (k : T (n
       none-zero : (b : Bool) → T (lacks 0 (of b))
       none-zero true = tt
       none-zero false = tt
-
-pub reply-kind : (v s : ℕ) → isReply (replied v s) ≡ true
-reply-kind v s = go (eqb v 1)
-  where
-    go : (b : Bool) → isReply (cond b (Allow (record { bits = s })) (Deny (record { bits = s }))) ≡ true
-    go true = refl
-    go false = refl
-
-pub update-kind : (k r : ℕ) → isReply (updated k r) ≡ false
-update-kind k r = go (eqb k 1)
-  where
-    go : (b : Bool) → isReply (cond b (Given r) (Withdrawn r)) ≡ false
-    go true = refl
-    go false = refl
 
 module _ (l : List ℕ) where
   -- what leaves every byte
@@ -194,10 +190,7 @@ demand-1 = record {
     not-test (eqb (length l) areaBytes) (length l ≡ areaBytes) (eqb→eq (length l) areaBytes, (λ e. subst⁻¹ T (eq-eqb (length l) areaBytes e) tt)),
     (refl, not-test (leb 1 n && leb n mostRoles) _ (among 1 mostRoles n), tt),
   ) tt tt;
-  reply-answers = λ l p v s. subst⁻¹ (λ (o : Out). OnGrounds l o (eventGrounds l p v (replied v s) (2 ^ stateOf l .roles ≤ s) 7) IsRecorded) (reply-is l p v s)
-      (event-answers l p v (replied v s) _ (unknown-reply (stateOf l .roles) v s) 7 (rw (reply-kind v s)));
-  update-answers = λ l p k r. subst⁻¹ (λ (o : Out). OnGrounds l o (eventGrounds l p k (updated k r) (stateOf l .roles ≤ r) 8) IsRecorded) (update-is l p k r)
-      (event-answers l p k (updated k r) _ (unknown-update (stateOf l .roles) k r) 8 (rw (update-kind k r)));
+  event-answers = event-answers;
   decide-answers = decide-answers;
   decide-unchanged = λ l p s. refl;
   forget-answers = λ l p. staying l IsRecorded (writes 0 (withRow (stateOf l) p blank)) refl (recorded l (withRow (stateOf l) p blank)) (areaRefusals l p []) _

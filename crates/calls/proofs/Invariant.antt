@@ -13,14 +13,14 @@ use Rattle.roles.proofs.Tests.{T-and}
 use Rattle.roles.specs.Sets.{mostRoles}
 use Rattle.meaning.specs.declared.Happening.{Happening}
 use Rattle.meaning.specs.Events.{known}
-use Rattle.meaning.specs.Rows.{Row, blank, step, settle, rowAfter, Recorded}
+use Rattle.meaning.specs.Rows.{Row, blank, fits, step, settle, rowAfter, Recorded}
 use Rattle.area.specs.Layout.{areaBytes}
 use Rattle.area.specs.State.{State, opened, GoodState, rowFor, put, withRow, areaOf}
 use Rattle.area.proofs.RowLaws.{rowFor-put-same, rowFor-put-other}
-use Rattle.calls.specs.Calls.{Out, stays, writes, replied, updated, openOf, replyOf, updateOf, decideOf, forgetOf}
-use Rattle.calls.specs.Histories.{Call, opening, reply, update, ask, forget, outOf, trailOn, trailAfter, rolesAfter, History, next, Begun, begin, going}
+use Rattle.calls.specs.Calls.{Out, stays, writes, happened, openOf, eventOf, forgetOf}
+use Rattle.calls.specs.Histories.{Call, opening, event, ask, forget, outOf, trailOn, trailAfter, rolesAfter, History, next, Begun, begin, going}
 use Rattle.calls.proofs.CallLaws.{open-law}
-use Rattle.calls.proofs.Outcomes.{Outcome, refused, recorded, forgotten, drop-state, reply-on, update-on, forget-on}
+use Rattle.calls.proofs.Outcomes.{Outcome, refused, recorded, forgotten, drop-state, event-does, forget-on}
 
 pub record Holds (h : History) : Type 0 where
   pub state : State
@@ -37,7 +37,7 @@ unfolding rowAfter
 row-then w [] e = refl
 row-then w (f ∷ es) e = row-then (step f w) es e
 
-recorded-then : (n : ℕ) (w : Row) (es : List Happening) (e : Happening) → Recorded n w es → T (known n e) → settle e (rowAfter w es) .answer ≡ 0 → Recorded n w (es ++ e ∷ [])
+recorded-then : (n : ℕ) (w : Row) (es : List Happening) (e : Happening) → Recorded n w es → T (known n e) → settle fits e (rowAfter w es) .answer ≡ 0 → Recorded n w (es ++ e ∷ [])
 unfolding rowAfter
 recorded-then n w [] e r k a = (k, a, tt)
 recorded-then n w (f ∷ es) e r k a = (r .0, r .1, recorded-then n (step f w) es e (r .2) k a)
@@ -107,7 +107,7 @@ module _ (h : History) (k : Holds h) where
       make s′ g (k .roles) (areaOf s′) refl (λ q. trailOn q p e 0 (h .trail q))
       (λ q. elim (ℕ-discrete p q) [
         | yes f ↦ subst⁻¹ (Belongs (h .roles) (rowFor q (s′ .rows))) (trailOn-recorded q p e (h .trail q) f) (subst (λ (r : ℕ). Belongs (h .roles) (rowFor r (s′ .rows)) (h .trail r ++ e ∷ [])) f (
-          recorded-then (h .roles) blank (h .trail p) e (k .trail-recorded p) (subst (λ (m : ℕ). T (known m e)) (k .roles) x) (subst (λ (v : Row). settle e v .answer ≡ 0) (k .rows p) c),
+          recorded-then (h .roles) blank (h .trail p) e (k .trail-recorded p) (subst (λ (m : ℕ). T (known m e)) (k .roles) x) (subst (λ (v : Row). settle fits e v .answer ≡ 0) (k .rows p) c),
           rowFor-put-same (k .state .roles) 0 p (step e w) (k .state .rows) (k .good .good-rows) ∙ ap (step e) (k .rows p) ∙ sym (row-then blank (h .trail p) e),
         ))
         | no f ↦ subst⁻¹ (Belongs (h .roles) (rowFor q (s′ .rows))) (trailOn-other q p e 0 (h .trail q) f) (k .trail-recorded q, rowFor-put-other p q (step e w) (k .state .rows) f ∙ k .rows q)
@@ -141,8 +141,7 @@ module _ (h : History) (k : Holds h) where
   pub next-holds : (c : Call) → Holds (next c h)
   unfolding next outOf trailAfter rolesAfter
   next-holds (opening n) = open-holds n
-  next-holds (reply p v t) = event-holds p (replied v t) (replyOf (h .area) p v t) (subst⁻¹ (λ (l : List ℕ). Outcome (k .state) p (replied v t) (replyOf l p v t)) (k .area) (reply-on (k .state) (k .good) p v t))
-  next-holds (update p u r) = event-holds p (updated u r) (updateOf (h .area) p u r) (subst⁻¹ (λ (l : List ℕ). Outcome (k .state) p (updated u r) (updateOf l p u r)) (k .area) (update-on (k .state) (k .good) p u r))
+  next-holds (event p i x) = event-holds p (happened i x) (eventOf (h .area) p i x) (subst⁻¹ (λ (l : List ℕ). Outcome (k .state) p (happened i x) (eventOf l p i x)) (k .area) (event-does (k .state) (k .good) p i x))
   next-holds (ask p t) = make (k .state) (k .good) (k .roles) (h .area) (k .area) (h .trail) belongs
   next-holds (forget p) = forget-holds p
 

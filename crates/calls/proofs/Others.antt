@@ -20,10 +20,10 @@ use Rattle.area.specs.Layout.{mostRows, areaBytes}
 use Rattle.area.specs.State.{State, GoodState, isBlank, rowFor, withRow, stateOf, areaOf}
 use Rattle.area.proofs.RowLaws.{isBlank-law}
 use Rattle.area.proofs.Bytes.{length-area, area-state}
-use Rattle.calls.specs.Calls.{Out, stays, writes, valid, fitsIn, noRoom, eventOn, replied, updated, eventFor, openOf, forgetOf}
-use Rattle.calls.specs.Histories.{Call, opening, reply, update, ask, forget, outOf, trailOn, trailAfter, History, next}
+use Rattle.calls.specs.Calls.{Out, stays, writes, valid, fitsIn, lastKind, happened, eventOn, eventOf, openOf, forgetOf}
+use Rattle.calls.specs.Histories.{Call, opening, event, ask, forget, outOf, trailOn, trailAfter, History, next}
 use Rattle.calls.specs.Demands as demands
-use Rattle.calls.proofs.CallLaws.{open-bad-count, open-recorded, fitsIn-law, event-unknown, event-contradicts, event-unfit, event-recorded, reply-is, update-is, for-no-permission, for-bad-verdict, for-good, forget-no-permission, forget-forgets}
+use Rattle.calls.proofs.CallLaws.{open-bad-count, open-recorded, fitsIn-law, event-contradicts, event-unfit, event-recorded, event-no-permission, event-bad-kind, event-unknown, reply-kind, forget-no-permission, forget-forgets}
 use Rattle.calls.proofs.Outcomes.{area-is-good, event-is}
 use Rattle.calls.proofs.Invariant.{Holds, next-holds, begun-holds}
 use Rattle.calls.proofs.Decisions.{other-stays, no-other}
@@ -35,26 +35,36 @@ use Rattle.calls.proofs.Full.{w′-good, held, stepped}
 answerBy : Bool → Bool → Bool → Bool → Bool → ℕ → ℕ
 answerBy v i k c f u = cond v (cond i (cond k (cond c 6 (cond f 0 u)) 4) 5) 3
 
-event-by : (s : State) → GoodState s → (p i : ℕ) (e : Happening)
-    → eventFor (areaOf s) p i e .answer ≡ answerBy (valid p) (leb i 1) (known (s .roles) e) (contradicts e (rowFor p (s .rows))) (fitsIn s p (step e (rowFor p (s .rows)))) (noRoom e)
+event-by : (s : State) → GoodState s → (p i x : ℕ)
+    → eventOf (areaOf s) p i x .answer
+    ≡ answerBy (valid p) (leb i lastKind) (known (s .roles) (happened i x)) (contradicts (happened i x) (rowFor p (s .rows))) (fitsIn s p (step (happened i x) (rowFor p (s .rows)))) (demands.noRoom i)
 unfolding answerBy
-event-by s g p i e = go (valid p) refl (leb i 1) refl (known (s .roles) e) refl (contradicts e (rowFor p (s .rows))) refl (fitsIn s p (step e (rowFor p (s .rows)))) refl
+event-by s g p i x = go (valid p) refl (leb i lastKind) refl (known (s .roles) e) refl (contradicts e w) refl (fitsIn s p (step e w)) refl
   where
+    e : Happening
+    e = happened i x
+
+    w : Row
+    w = rowFor p (s .rows)
+
+    known-in : known (stateOf (areaOf s) .roles) e ≡ known (s .roles) e
+    known-in = ap (λ (u : State). known (u .roles) e) (area-state s g)
+
     unfit-number : (r : Bool) → cond r (stays 7 (areaOf s)) (writes 8 (withRow s p blank)) .answer ≡ cond r 7 8
     unfit-number true = refl
     unfit-number false = refl
 
-    on : valid p ≡ true → leb i 1 ≡ true → (o : Out) → eventOn (areaOf s) s p e (rowFor p (s .rows)) ≡ o → eventFor (areaOf s) p i e .answer ≡ o .answer
-    on v b o q = ap (λ (x : Out). x .answer) (for-good (areaOf s) p i e (area-is-good s g) v b ∙ event-is s g p e ∙ q)
+    on : valid p ≡ true → leb i lastKind ≡ true → known (s .roles) e ≡ true → (o : Out) → eventOn (areaOf s) s p e w ≡ o → eventOf (areaOf s) p i x .answer ≡ o .answer
+    on v b k o q = ap (λ (y : Out). y .answer) (event-is s g p i x (subst⁻¹ T v tt) (subst⁻¹ T b tt) (subst⁻¹ T k tt) ∙ q)
 
-    go : (v : Bool) → valid p ≡ v → (b : Bool) → leb i 1 ≡ b → (k : Bool) → known (s .roles) e ≡ k → (c : Bool) → contradicts e (rowFor p (s .rows)) ≡ c
-        → (f : Bool) → fitsIn s p (step e (rowFor p (s .rows))) ≡ f → eventFor (areaOf s) p i e .answer ≡ answerBy v b k c f (noRoom e)
-    go false v b x k y c z f q = ap (λ (o : Out). o .answer) (for-no-permission (areaOf s) p i e (area-is-good s g) v)
-    go true v false x k y c z f q = ap (λ (o : Out). o .answer) (for-bad-verdict (areaOf s) p i e (area-is-good s g) v x)
-    go true v true x false y c z f q = on v x _ (event-unknown (areaOf s) s p e (rowFor p (s .rows)) y)
-    go true v true x true y true z f q = on v x _ (event-contradicts (areaOf s) s p e (rowFor p (s .rows)) y z)
-    go true v true x true y false z true q = on v x _ (event-recorded (areaOf s) s p e (rowFor p (s .rows)) y z q)
-    go true v true x true y false z false q = on v x _ (event-unfit (areaOf s) s p e (rowFor p (s .rows)) y z q) ∙ unfit-number (isReply e)
+    go : (v : Bool) → valid p ≡ v → (b : Bool) → leb i lastKind ≡ b → (k : Bool) → known (s .roles) e ≡ k → (c : Bool) → contradicts e w ≡ c
+        → (f : Bool) → fitsIn s p (step e w) ≡ f → eventOf (areaOf s) p i x .answer ≡ answerBy v b k c f (demands.noRoom i)
+    go false v b x′ k y c z f q = ap (λ (o : Out). o .answer) (event-no-permission (areaOf s) p i x (area-is-good s g) v)
+    go true v false b k y c z f q = ap (λ (o : Out). o .answer) (event-bad-kind (areaOf s) p i x (area-is-good s g) v b)
+    go true v true b false y c z f q = ap (λ (o : Out). o .answer) (event-unknown (areaOf s) p i x (area-is-good s g) v b (known-in ∙ y))
+    go true v true b true y true z f q = on v b y _ (event-contradicts (areaOf s) s p e w z)
+    go true v true b true y false z true q = on v b y _ (event-recorded (areaOf s) s p e w z q)
+    go true v true b true y false z false q = on v b y _ (event-unfit (areaOf s) s p e w z q) ∙ unfit-number (isReply e) ∙ ap (λ (r : Bool). cond r 7 8) (reply-kind i x)
 
 -- ---- a row that fits in one area and not in the other
 
@@ -95,62 +105,67 @@ module _ (h k : History) (x : Holds h) (y : Holds k) (p : ℕ) (same : rowFor p 
 
 -- ---- the answers to an event before and after a call about another permission
 
-unfit-is : (e : Happening) (a : ℕ) → a ≡ noRoom e → (a ≡ 7) ⊎ (a ≡ 8)
-unfit-is e a = go (isReply e)
+unfit-is : (i a : ℕ) → a ≡ demands.noRoom i → (a ≡ 7) ⊎ (a ≡ 8)
+unfit-is i a = go (leb i 1)
   where
     go : (r : Bool) → a ≡ cond r 7 8 → (a ≡ 7) ⊎ (a ≡ 8)
     go true q = inl q
     go false q = inr q
 
--- d is a call with the event e about p, and h and k hold the same of p
-module _ (h k : History) (x : Holds h) (y : Holds k) (p : ℕ) (d : Call) (i : ℕ) (e : Happening) where
+-- h and k hold the same of p
+module _ (h k : History) (x : Holds h) (y : Holds k) (p i j : ℕ) where
   abbrev n : ℕ
   n = h .roles
 
   abbrev u : Row
   u = rowFor p (x .state .rows)
 
-  answer-of : (m : History) (z : Holds m) → m .roles ≡ n → ((l : List ℕ) → outOf d l ≡ eventFor l p i e) → rowFor p (z .state .rows) ≡ u
-      → outOf d (m .area) .answer ≡ answerBy (valid p) (leb i 1) (known n e) (contradicts e u) (fitsIn (z .state) p (step e u)) (noRoom e)
-  answer-of m z q out row =
-      ap (λ (o : Out). o .answer) (out (m .area))
-      ∙ ap (λ (l : List ℕ). eventFor l p i e .answer) (z .area)
-      ∙ event-by (z .state) (z .good) p i e
-      ∙ ap₂ {C = ℕ} (λ (j : ℕ) (a : Row). answerBy (valid p) (leb i 1) (known j e) (contradicts e a) (fitsIn (z .state) p (step e a)) (noRoom e)) (z .roles ∙ q) row
+  abbrev e : Happening
+  e = happened i j
 
-  event-others : ((l : List ℕ) → outOf d l ≡ eventFor l p i e) → ((t : List Happening) → trailAfter p d 0 t ≡ trailOn p p e 0 t) → k .roles ≡ h .roles → k .trail p ≡ h .trail p
-      → (outOf d (k .area) .answer ≡ outOf d (h .area) .answer) ⊎ (demands.TookRoom p d h k ⊎ demands.TookRoom p d k h)
-  unfolding answerBy
-  event-others out lengthens count same =
-      go (valid p) refl (leb i 1) (known n e) refl (contradicts e u) refl (fitsIn (x .state) p (step e u)) refl (fitsIn (y .state) p (step e u)) refl
-      (answer-of h x refl out refl) (answer-of k y count out row)
+  abbrev d : Call
+  d = event p i j
+
+  answer-of : (m : History) (z : Holds m) → m .roles ≡ n → rowFor p (z .state .rows) ≡ u
+      → eventOf (m .area) p i j .answer ≡ answerBy (valid p) (leb i lastKind) (known n e) (contradicts e u) (fitsIn (z .state) p (step e u)) (demands.noRoom i)
+  answer-of m z q row =
+      ap (λ (l : List ℕ). eventOf l p i j .answer) (z .area)
+      ∙ event-by (z .state) (z .good) p i j
+      ∙ ap₂ {C = ℕ} (λ (r : ℕ) (a : Row). answerBy (valid p) (leb i lastKind) (known r e) (contradicts e a) (fitsIn (z .state) p (step e a)) (demands.noRoom i)) (z .roles ∙ q) row
+
+  event-others : k .roles ≡ h .roles → k .trail p ≡ h .trail p
+      → (eventOf (k .area) p i j .answer ≡ eventOf (h .area) p i j .answer) ⊎ (demands.TookRoom p d h k ⊎ demands.TookRoom p d k h)
+  unfolding answerBy outOf trailAfter
+  event-others count same =
+      go (valid p) refl (leb i lastKind) (known n e) refl (contradicts e u) refl (fitsIn (x .state) p (step e u)) refl (fitsIn (y .state) p (step e u)) refl
+      (answer-of h x refl refl) (answer-of k y count row)
     where
       row : rowFor p (y .state .rows) ≡ rowFor p (x .state .rows)
       row = y .rows p ∙ ap (rowAfter blank) same ∙ sym (x .rows p)
 
-      took : (a b : History) → outOf d (a .area) .answer ≡ 0 → outOf d (b .area) .answer ≡ noRoom e → Reasons a b p e → demands.TookRoom p d a b
+      took : (a b : History) → eventOf (a .area) p i j .answer ≡ 0 → eventOf (b .area) p i j .answer ≡ demands.noRoom i → Reasons a b p e → demands.TookRoom p d a b
       took a b f g r = record {
         recorded = f;
-        unfit = unfit-is e (outOf d (b .area) .answer) g;
+        unfit = unfit-is i (eventOf (b .area) p i j .answer) g;
         before = r .before;
-        after = subst⁻¹ (λ (t : List Happening). ¬ (demands.NothingKnown (a .roles) t)) (lengthens (a .trail p)) (r .after);
+        after = r .after;
         room = r .room;
         no-room = r .no-room;
       }
 
-      go : (v : Bool) → valid p ≡ v → (b : Bool) → (j : Bool) → known n e ≡ j → (c : Bool) → contradicts e u ≡ c → (f : Bool) → fitsIn (x .state) p (step e u) ≡ f → (g : Bool) → fitsIn (y .state) p (step e u) ≡ g
-          → outOf d (h .area) .answer ≡ answerBy v b j c f (noRoom e) → outOf d (k .area) .answer ≡ answerBy v b j c g (noRoom e)
-          → (outOf d (k .area) .answer ≡ outOf d (h .area) .answer) ⊎ (demands.TookRoom p d h k ⊎ demands.TookRoom p d k h)
-      go false v b j q c r f s g t m m′ = inl (m′ ∙ sym m)
-      go true v false j q c r f s g t m m′ = inl (m′ ∙ sym m)
-      go true v true false q c r f s g t m m′ = inl (m′ ∙ sym m)
-      go true v true true q true r f s g t m m′ = inl (m′ ∙ sym m)
-      go true v true true q false r true s true t m m′ = inl (m′ ∙ sym m)
-      go true v true true q false r false s false t m m′ = inl (m′ ∙ sym m)
-      go true v true true q false r true s false t m m′ =
-          inr (inl (took h k m m′ (reasons h k x y p row (subst⁻¹ T v tt) e (subst⁻¹ T q tt) (subst⁻¹ (λ (z : Bool). T (not z)) r tt) s t)))
-      go true v true true q false r false s true t m m′ =
-          inr (inr (took k h m′ m (reasons k h y x p (sym row) (subst⁻¹ T v tt) e (subst⁻¹ (λ (z : ℕ). T (known z e)) count (subst⁻¹ T q tt))
+      go : (v : Bool) → valid p ≡ v → (b : Bool) → (m : Bool) → known n e ≡ m → (c : Bool) → contradicts e u ≡ c → (f : Bool) → fitsIn (x .state) p (step e u) ≡ f → (g : Bool) → fitsIn (y .state) p (step e u) ≡ g
+          → eventOf (h .area) p i j .answer ≡ answerBy v b m c f (demands.noRoom i) → eventOf (k .area) p i j .answer ≡ answerBy v b m c g (demands.noRoom i)
+          → (eventOf (k .area) p i j .answer ≡ eventOf (h .area) p i j .answer) ⊎ (demands.TookRoom p d h k ⊎ demands.TookRoom p d k h)
+      go false v b m q c r f s g t o o′ = inl (o′ ∙ sym o)
+      go true v false m q c r f s g t o o′ = inl (o′ ∙ sym o)
+      go true v true false q c r f s g t o o′ = inl (o′ ∙ sym o)
+      go true v true true q true r f s g t o o′ = inl (o′ ∙ sym o)
+      go true v true true q false r true s true t o o′ = inl (o′ ∙ sym o)
+      go true v true true q false r false s false t o o′ = inl (o′ ∙ sym o)
+      go true v true true q false r true s false t o o′ =
+          inr (inl (took h k o o′ (reasons h k x y p row (subst⁻¹ T v tt) e (subst⁻¹ T q tt) (subst⁻¹ (λ (z : Bool). T (not z)) r tt) s t)))
+      go true v true true q false r false s true t o o′ =
+          inr (inr (took k h o′ o (reasons k h y x p (sym row) (subst⁻¹ T v tt) e (subst⁻¹ (λ (z : ℕ). T (known z e)) count (subst⁻¹ T q tt))
           (subst⁻¹ (λ (w : Row). T (not (contradicts e w))) row (subst⁻¹ (λ (z : Bool). T (not z)) r tt))
           (subst⁻¹ (λ (w : Row). fitsIn (y .state) p (step e w) ≡ true) row t)
           (subst⁻¹ (λ (w : Row). fitsIn (x .state) p (step e w) ≡ false) row s))))
@@ -178,15 +193,10 @@ forgets h x q = ap (λ (l : List ℕ). forgetOf l q .answer) (x .area) ∙ go (v
 pub others : demands.Others
 unfolding outOf trailAfter next
 others h g p c (opening n) d a = let x = begun-holds g in inl (opens (next c h) (next-holds h x c) n ∙ sym (opens h x n))
-others h g p c (reply q v s) d a =
+others h g p c (event q i j) d a =
     let x = begun-holds g in
     let o = other-stays c p (outOf c (h .area) .answer) (h .roles) (h .trail p) d in
-    event-others h (next c h) x (next-holds h x c) p (reply q v s) v (replied v s) (λ l. reply-is l q v s ∙ ap (λ (z : ℕ). eventFor l z v (replied v s)) a)
-    (λ t. ap (λ (z : ℕ). trailOn p z (replied v s) 0 t) a) (o .0) (o .1)
-others h g p c (update q k r) d a =
-    let x = begun-holds g in
-    let o = other-stays c p (outOf c (h .area) .answer) (h .roles) (h .trail p) d in
-    event-others h (next c h) x (next-holds h x c) p (update q k r) k (updated k r) (λ l. update-is l q k r ∙ ap (λ (z : ℕ). eventFor l z k (updated k r)) a)
-    (λ t. ap (λ (z : ℕ). trailOn p z (updated k r) 0 t) a) (o .0) (o .1)
+    subst⁻¹ (λ (z : ℕ). (eventOf (next c h .area) z i j .answer ≡ eventOf (h .area) z i j .answer) ⊎ (demands.TookRoom p (event z i j) h (next c h) ⊎ demands.TookRoom p (event z i j) (next c h) h)) a
+    (event-others h (next c h) x (next-holds h x c) p i j (o .0) (o .1))
 others h g p c (ask q s) d a = inl (ap (λ (x : Decided). x .answer) (no-other h g c q s (subst⁻¹ (λ (z : ℕ). ¬ (demands.About z c)) a d)))
 others h g p c (forget q) d a = let x = begun-holds g in inl (forgets (next c h) (next-holds h x c) q ∙ sym (forgets h x q))

@@ -10,15 +10,15 @@ use Rattle.roles.specs.Sets.{allBelow, partOf}
 use Rattle.roles.proofs.Tests.{T?, T-true, T-false}
 use Rattle.meaning.specs.declared.Happening.{Happening}
 use Rattle.meaning.specs.Events.{known, isReply}
-use Rattle.meaning.specs.Rows.{Row, blank, Good, contradicts, step, settle, decide}
+use Rattle.meaning.specs.Rows.{Row, blank, Good, fits, contradicts, step, settle, decide}
 use Rattle.meaning.proofs.Kept.{step-good}
 use Rattle.meaning.proofs.Answers.{settle-law, fits-law}
 use Rattle.area.specs.Layout.{goodBytes}
 use Rattle.area.specs.State.{State, GoodState, rowFor, withRow, stateOf, areaOf}
 use Rattle.area.proofs.RowLaws.{rowFor-good, put-good, put-most}
 use Rattle.area.proofs.Bytes.{area-good, area-state}
-use Rattle.calls.specs.Calls.{Out, stays, writes, valid, fitsIn, eventOn, eventOf, replied, updated, eventFor, replyOf, updateOf, decideOf, forgetOf}
-use Rattle.calls.proofs.CallLaws.{valid-law, fitsIn-law, event-unknown, event-contradicts, event-unfit, event-recorded, reply-is, update-is, for-no-permission, for-bad-verdict, for-good, decide-decides, forget-no-permission, forget-forgets}
+use Rattle.calls.specs.Calls.{Out, stays, writes, valid, fitsIn, lastKind, happened, eventOn, eventOf, decideOf, forgetOf}
+use Rattle.calls.proofs.CallLaws.{valid-law, fitsIn-law, event-contradicts, event-unfit, event-recorded, event-no-permission, event-bad-kind, event-unknown, event-known, decide-decides, forget-no-permission, forget-forgets}
 
 -- ---- states with another row
 
@@ -52,7 +52,7 @@ module _ (s : State) (g : GoodState s) (p : ℕ) (v : T (valid p)) where
 -- an event is refused and changes nothing, is recorded, or its permission is forgotten
 pub data Outcome (s : State) (p : ℕ) (e : Happening) : Out → Type 0 where
   refused : (a : ℕ) → a ≢ 0 → a ≢ 8 → Outcome s p e (stays a (areaOf s))
-  recorded : T (known (s .roles) e) → settle e (rowFor p (s .rows)) .answer ≡ 0 → GoodState (withRow s p (step e (rowFor p (s .rows))))
+  recorded : T (known (s .roles) e) → settle fits e (rowFor p (s .rows)) .answer ≡ 0 → GoodState (withRow s p (step e (rowFor p (s .rows))))
       → Outcome s p e (writes 0 (withRow s p (step e (rowFor p (s .rows)))))
   forgotten : GoodState (withRow s p blank) → Outcome s p e (writes 8 (withRow s p blank))
 
@@ -60,8 +60,8 @@ pub area-is-good : (s : State) → GoodState s → goodBytes (areaOf s) ≡ true
 area-is-good s g = T-true (goodBytes (areaOf s)) (area-good s g)
 
 module _ (s : State) (g : GoodState s) (p : ℕ) where
-  event-on : T (valid p) → (e : Happening) → Outcome s p e (eventOn (areaOf s) s p e (rowFor p (s .rows)))
-  event-on v e = go (known (s .roles) e) refl (contradicts e w) refl (fitsIn s p (step e w)) refl
+  event-on : T (valid p) → (e : Happening) → T (known (s .roles) e) → Outcome s p e (eventOn (areaOf s) s p e (rowFor p (s .rows)))
+  event-on v e kn = go (contradicts e w) refl (fitsIn s p (step e w)) refl
     where
       w : Row
       w = rowFor p (s .rows)
@@ -70,36 +70,39 @@ module _ (s : State) (g : GoodState s) (p : ℕ) where
       full-or-forgotten true = refused 7 (λ z. omega arith) (λ z. omega arith)
       full-or-forgotten false = forgotten (drop-state s g p v)
 
-      go : (k : Bool) → known (s .roles) e ≡ k → (c : Bool) → contradicts e w ≡ c → (f : Bool) → fitsIn s p (step e w) ≡ f → Outcome s p e (eventOn (areaOf s) s p e w)
-      go false k c x f y = subst⁻¹ (Outcome s p e) (event-unknown (areaOf s) s p e w k) (refused 4 (λ z. omega arith) (λ z. omega arith))
-      go true k true x f y = subst⁻¹ (Outcome s p e) (event-contradicts (areaOf s) s p e w k x) (refused 6 (λ z. omega arith) (λ z. omega arith))
-      go true k false x false y = subst⁻¹ (Outcome s p e) (event-unfit (areaOf s) s p e w k x y) (full-or-forgotten (isReply e))
-      go true k false x true y =
+      go : (c : Bool) → contradicts e w ≡ c → (f : Bool) → fitsIn s p (step e w) ≡ f → Outcome s p e (eventOn (areaOf s) s p e w)
+      go true x f y = subst⁻¹ (Outcome s p e) (event-contradicts (areaOf s) s p e w x) (refused 6 (λ z. omega arith) (λ z. omega arith))
+      go false x false y = subst⁻¹ (Outcome s p e) (event-unfit (areaOf s) s p e w x y) (full-or-forgotten (isReply e))
+      go false x true y =
           let gw = rowFor-good (s .roles) 0 p (s .rows) (g .good-rows) in
-          let kn : T (known (s .roles) e) = subst⁻¹ T k tt in
           let no : T (not (contradicts e w)) = subst⁻¹ (λ (b : Bool). T (not b)) x tt in
           let fit : T (fitsIn s p (step e w)) = subst⁻¹ T y tt in
-          subst⁻¹ (Outcome s p e) (event-recorded (areaOf s) s p e w k x y)
+          subst⁻¹ (Outcome s p e) (event-recorded (areaOf s) s p e w x y)
           (recorded kn (settle-law (s .roles) e w gw kn .recorded .1 (no, fits-law (step e w) .0 (fitsIn-law s p (step e w) fit .0)))
           (put-state s g p v (step e w) (step-good (s .roles) w e gw kn no) fit))
 
-  pub event-is : (e : Happening) → eventOf (areaOf s) p e ≡ eventOn (areaOf s) s p e (rowFor p (s .rows))
-  event-is e = ap (λ (u : State). eventOn (areaOf s) u p e (rowFor p (u .rows))) (area-state s g)
-
-  -- a reply or an update
-  event-for : (v : ℕ) (e : Happening) → Outcome s p e (eventFor (areaOf s) p v e)
-  event-for v e = go (valid p) refl (leb v 1) refl
+  -- an event that is refused neither by 3 nor 5 nor 4
+  pub event-is : (k x : ℕ) → T (valid p) → T (leb k lastKind) → T (known (s .roles) (happened k x)) → eventOf (areaOf s) p k x ≡ eventOn (areaOf s) s p (happened k x) (rowFor p (s .rows))
+  event-is k x v b kn =
+      event-known (areaOf s) p k x (area-is-good s g) (T-true (valid p) v) (T-true (leb k lastKind) b) (known-in ∙ T-true (known (s .roles) (happened k x)) kn)
+      ∙ ap (λ (u : State). eventOn (areaOf s) u p (happened k x) (rowFor p (u .rows))) (area-state s g)
     where
-      go : (a : Bool) → valid p ≡ a → (b : Bool) → leb v 1 ≡ b → Outcome s p e (eventFor (areaOf s) p v e)
-      go false a b x = subst⁻¹ (Outcome s p e) (for-no-permission (areaOf s) p v e (area-is-good s g) a) (refused 3 (λ z. omega arith) (λ z. omega arith))
-      go true a false x = subst⁻¹ (Outcome s p e) (for-bad-verdict (areaOf s) p v e (area-is-good s g) a x) (refused 5 (λ z. omega arith) (λ z. omega arith))
-      go true a true x = subst⁻¹ (Outcome s p e) (for-good (areaOf s) p v e (area-is-good s g) a x ∙ event-is e) (event-on (subst⁻¹ T a tt) e)
+      known-in : known (stateOf (areaOf s) .roles) (happened k x) ≡ known (s .roles) (happened k x)
+      known-in = ap (λ (u : State). known (u .roles) (happened k x)) (area-state s g)
 
-  pub reply-on : (v t : ℕ) → Outcome s p (replied v t) (replyOf (areaOf s) p v t)
-  reply-on v t = subst⁻¹ (Outcome s p (replied v t)) (reply-is (areaOf s) p v t) (event-for v (replied v t))
-
-  pub update-on : (k r : ℕ) → Outcome s p (updated k r) (updateOf (areaOf s) p k r)
-  update-on k r = subst⁻¹ (Outcome s p (updated k r)) (update-is (areaOf s) p k r) (event-for k (updated k r))
+  -- any numbers
+  pub event-does : (k x : ℕ) → Outcome s p (happened k x) (eventOf (areaOf s) p k x)
+  event-does k x = ⊎-elim (λ v. ⊎-elim (λ b. ⊎-elim
+      (λ n. subst⁻¹ Does (event-is k x v b n) (event-on v (happened k x) n))
+      (λ n. subst⁻¹ Does (event-unknown (areaOf s) p k x (area-is-good s g) (T-true (valid p) v) (T-true (leb k lastKind) b) (ap (λ (u : State). known (u .roles) (happened k x)) (area-state s g) ∙ T-false (known (s .roles) (happened k x)) n)) (refused 4 (λ z. omega arith) (λ z. omega arith)))
+      (T? (known (s .roles) (happened k x))))
+      (λ b. subst⁻¹ Does (event-bad-kind (areaOf s) p k x (area-is-good s g) (T-true (valid p) v) (T-false (leb k lastKind) b)) (refused 5 (λ z. omega arith) (λ z. omega arith)))
+      (T? (leb k lastKind)))
+      (λ v. subst⁻¹ Does (event-no-permission (areaOf s) p k x (area-is-good s g) (T-false (valid p) v)) (refused 3 (λ z. omega arith) (λ z. omega arith)))
+      (T? (valid p))
+    where
+      Does : Out → Type 0
+      Does o = Outcome s p (happened k x) o
 
   pub decide-on : (t : ℕ) → T (valid p) → T (partOf t (allBelow (s .roles))) → decideOf (areaOf s) p t ≡ decide (rowFor p (s .rows)) t
   decide-on t v b =

@@ -1,6 +1,6 @@
 -- The readings hold: calls about permission 5 do to the area what their events do to its one row. Assumes nothing.
 use mathlib.Core.Path.{_≡_, refl, sym, ap, ap₂, _∙_, subst, subst⁻¹}
-use mathlib.Core.Bool.{Bool, true, false, not, cond, _&&_, and-true}
+use mathlib.Core.Bool.{Bool, true, false, cond, _&&_, and-true}
 use mathlib.Core.List.{List, [], _∷_, map, append-nil}
 use Prim.Native.Nat.{ℕ, _<_}
 use native.Mathlib.Omega.{arith}
@@ -13,9 +13,10 @@ use Rattle.roles.proofs.Tests.{T-and, T-true}
 use Rattle.roles.proofs.Member.{in-empty, partOf-law}
 use Rattle.roles.proofs.Laws.{single-below, partOf-allBelow}
 use Rattle.meaning.specs.declared.Happening.{Happening}
-use Rattle.meaning.specs.Events.{rolesIn, known, isReply}
+use Rattle.meaning.specs.Events.{rolesIn, known}
 use Rattle.meaning.specs.Rows.{Row, blank, Good, hasPart, hasProperPart, losing, apart, reduce, denying, allowing, clearing, giving, withdrawing, contradicts, step, fits, Settled, unchanged, forgotten, overflow, settle, Decided, bare, undecided, decide}
 use Rattle.meaning.specs.Lists.{any, keep, put, inOrder}
+use Rattle.meaning.proofs.Answers.{Case, refused, taken, no-room, dropped, case, settle-by}
 use Rattle.meaning.proofs.Theorems.{settle-good, settle-fits}
 use Rattle.meaning.proofs.Kept.{blank-good}
 use Rattle.area.specs.Layout.{mostRows}
@@ -23,15 +24,11 @@ use Rattle.area.specs.State as states
 use Rattle.area.specs.State.{State, Entry, opened, withRows, GoodState, isBlank, rowFor, withRow, stateOf, areaOf}
 use Rattle.area.proofs.Bytes.{area-state}
 use Rattle.area.proofs.RowLaws.{isBlank-law, Hit, hit-law, put-not, rowFor-put-same}
-use Rattle.calls.specs.Calls.{Out, stays, writes, valid, fitsIn, eventOn, replied, updated, eventFor, openOf, replyOf, decideOf}
-use Rattle.calls.specs.Histories.{Call, opening, reply, update, ask, forget, outOf, History, afterOpening, next, afterAll, history}
+use Rattle.calls.specs.Calls.{Out, stays, writes, valid, fitsIn, lastKind, happened, settledIn, eventOn, eventOf, openOf, decideOf}
+use Rattle.calls.specs.Histories.{Call, opening, event, ask, forget, outOf, History, afterOpening, next, afterAll, history}
 use Rattle.calls.specs.Readings.{answers, Answered, Kept, Asks, Readings}
-use Rattle.calls.proofs.CallLaws.{open-law, fitsIn-blank, fitsIn-room, event-contradicts, event-unfit, event-recorded, reply-is, update-is, for-good, forget-forgets}
+use Rattle.calls.proofs.CallLaws.{open-law, fitsIn-blank, fitsIn-room, event-contradicts, event-recorded, forget-forgets}
 use Rattle.calls.proofs.Outcomes.{put-state, area-is-good, event-is, decide-on}
-
--- an event on the area of a good state, that came in with the verdict or the kind v
-event-for : (s : State) → GoodState s → (p v : ℕ) (e : Happening) → T (valid p) → T (leb v 1) → eventFor (areaOf s) p v e ≡ eventOn (areaOf s) s p e (rowFor p (s .rows))
-event-for s g p v e ok b = for-good (areaOf s) p v e (area-is-good s g) (T-true (valid p) ok) (T-true (leb v 1) b) ∙ event-is s g p e
 
 -- ---- a permission without a row, on any good area
 
@@ -39,11 +36,11 @@ empty-part : (t : ℕ) → T (partOf 0 t)
 empty-part t = partOf-law 0 t .1 (λ r h. absurd (in-empty r h))
 
 module _ (s : State) (g : GoodState s) (p : ℕ) (v : T (valid p)) where
-  allow-none : replyOf (areaOf s) p 1 0 ≡ stays 6 (areaOf s)
-  unfolding known rolesIn contradicts
+  allow-none : eventOf (areaOf s) p 1 0 ≡ stays 6 (areaOf s)
+  unfolding happened known rolesIn contradicts
   allow-none =
-      reply-is (areaOf s) p 1 0 ∙ event-for s g p 1 (replied 1 0) v tt
-      ∙ event-contradicts (areaOf s) s p (replied 1 0) (rowFor p (s .rows)) (T-true _ (empty-part (allBelow (s .roles)))) (T-true _ (empty-part (rowFor p (s .rows) .denied)))
+      event-is s g p 1 0 v tt (empty-part (allBelow (s .roles)))
+      ∙ event-contradicts (areaOf s) s p (happened 1 0) (rowFor p (s .rows)) (T-true _ (empty-part (rowFor p (s .rows) .denied)))
 
   module _ (b : isBlank (rowFor p (s .rows)) ≡ true) where
     no-row : rowFor p (s .rows) ≡ blank
@@ -53,17 +50,16 @@ module _ (s : State) (g : GoodState s) (p : ℕ) (v : T (valid p)) where
     decide-none t a k e = decide-on s g p t v k ∙ ap (λ (w : Row). decide w t) no-row ∙ e
 
     -- nothing is denied, so the rows stay as they are
-    deny-none : replyOf (areaOf s) p 0 0 ≡ stays 0 (areaOf s)
-    unfolding known rolesIn contradicts hasPart any fits step denying losing reduce keep inOrder joined
+    deny-none : eventOf (areaOf s) p 0 0 ≡ stays 0 (areaOf s)
+    unfolding happened known rolesIn contradicts hasPart any fits step denying losing reduce keep inOrder joined
     deny-none =
-        let e : Happening = replied 0 0 in
+        let e : Happening = happened 0 0 in
         let same : step e blank ≡ blank = refl in
         let miss : ¬ (Hit p (s .rows)) = λ h. subst T (sym b ∙ hit-law (s .roles) 0 p (s .rows) (g .good-rows) .0 h) tt in
         let room : fitsIn s p blank ≡ true = fitsIn-blank s p blank refl refl in
-        reply-is (areaOf s) p 0 0
-        ∙ event-for s g p 0 e v tt
+        event-is s g p 0 0 v tt (empty-part (allBelow (s .roles)))
         ∙ ap (λ (w : Row). eventOn (areaOf s) s p e w) no-row
-        ∙ event-recorded (areaOf s) s p e blank (T-true _ (empty-part (allBelow (s .roles)))) refl (subst⁻¹ (λ (w : Row). fitsIn s p w ≡ true) same room)
+        ∙ event-recorded (areaOf s) s p e blank refl (subst⁻¹ (λ (w : Row). fitsIn s p w ≡ true) same room)
         ∙ ap (λ (w : Row). writes 0 (withRow s p w)) same
         ∙ ap (λ (es : List Entry). writes 0 (withRows s es)) (put-not p blank (s .rows) miss refl)
 
@@ -113,49 +109,40 @@ module _ (w : Row) where
   its-row : rowFor 5 (only w .rows) ≡ w
   its-row = rowFor-put-same 8 0 5 w [] tt
 
-  event-does : (e : Happening) → T (known 8 e) → eventOn (areaOf (only w)) (only w) 5 e w ≡ writes (settle e w .answer) (only (settle e w .row))
-  unfolding settle overflow
-  event-does e k = go (contradicts e w) refl (fits (step e w)) refl
+  -- there is always room for one row, so an event does to the area what it does to the row
+  event-does : (e : Happening) → eventOn (areaOf (only w)) (only w) 5 e w ≡ writes (settle fits e w .answer) (only (settle fits e w .row))
+  unfolding eventOn
+  event-does e = ap (settledIn (areaOf (only w)) (only w) 5) (settle-by (fitsIn (only w) 5) fits e w (fits-fitsIn (step e w))) ∙ go (settle fits e w) (case fits e w)
     where
-      kn : known 8 e ≡ true
-      kn = T-true (known 8 e) k
-
-      does-to : Settled → Out
-      does-to t = writes (t .answer) (only (t .row))
-
-      unfit : (r : Bool) → cond r (stays 7 (areaOf (only w))) (writes 8 (withRow (only w) 5 blank)) ≡ does-to (cond r (unchanged 7 w) forgotten)
-      unfit true = refl
-      unfit false = ap (writes 8) (put-again blank)
-
-      go : (c : Bool) → contradicts e w ≡ c → (f : Bool) → fits (step e w) ≡ f
-          → eventOn (areaOf (only w)) (only w) 5 e w ≡ does-to (cond c (unchanged 6 w) (cond f (record { answer = 0; row = step e w }) (cond (isReply e) (unchanged 7 w) forgotten)))
-      go true c f q = event-contradicts (areaOf (only w)) (only w) 5 e w kn c
-      go false c true q = event-recorded (areaOf (only w)) (only w) 5 e w kn c (fits-fitsIn (step e w) ∙ q) ∙ ap (writes 0) (put-again (step e w))
-      go false c false q = event-unfit (areaOf (only w)) (only w) 5 e w kn c (fits-fitsIn (step e w) ∙ q) ∙ unfit (isReply e)
+      go : (t : Settled) → Case fits e w t → settledIn (areaOf (only w)) (only w) 5 t ≡ writes (t .answer) (only (t .row))
+      go t (refused c) = refl
+      go t (taken c f) = ap (writes 0) (put-again (step e w))
+      go t (no-room r c f) = refl
+      go t (dropped r f) = ap (writes 8) (put-again blank)
 
 -- ---- the calls of the readings
 
 -- about 5, and refused neither by 3 nor 5 nor 4
 fine : Call → Bool
 fine (opening n) = false
-fine (reply p v s) = eqb p 5 && (leb v 1 && known 8 (replied v s))
-fine (update p k r) = eqb p 5 && (leb k 1 && known 8 (updated k r))
+fine (event p k x) = eqb p 5 && (leb k lastKind && known 8 (happened k x))
 fine (ask p s) = eqb p 5 && partOf s (allBelow 8)
 fine (forget p) = eqb p 5
 
 -- what they do to the row
 does : Call → Row → Settled
 does (opening n) w = unchanged 0 blank
-does (reply p v s) w = settle (replied v s) w
-does (update p k r) w = settle (updated k r) w
+does (event p k x) w = settle fits (happened k x) w
 does (ask p s) w = unchanged (decide w s .answer) w
 does (forget p) w = unchanged 0 blank
 
 module _ (w : Row) (k : Sound w) where
-  event-only : (v : ℕ) (e : Happening) → T (leb v 1 && known 8 e) → (eventFor (areaOf (only w)) 5 v e ≡ writes (settle e w .answer) (only (settle e w .row))) × Sound (settle e w .row)
-  event-only v e f =
-      let q = T-and (leb v 1) (known 8 e) .0 f in (
-        event-for (only w) (only-good w k) 5 v e tt (q .0) ∙ ap (eventOn (areaOf (only w)) (only w) 5 e) (its-row w) ∙ event-does w e (q .1),
+  event-only : (i x : ℕ) → T (leb i lastKind && known 8 (happened i x))
+      → (eventOf (areaOf (only w)) 5 i x ≡ writes (settle fits (happened i x) w .answer) (only (settle fits (happened i x) w .row))) × Sound (settle fits (happened i x) w .row)
+  event-only i x f =
+      let e : Happening = happened i x in
+      let q = T-and (leb i lastKind) (known 8 e) .0 f in (
+        event-is (only w) (only-good w k) 5 i x tt (q .0) (q .1) ∙ ap (eventOn (areaOf (only w)) (only w) 5 e) (its-row w) ∙ event-does w e,
         record { good = settle-good 8 e w (k .good) (q .1); fit = settle-fits e w (k .fit) },
       )
 
@@ -169,14 +156,10 @@ module _ (w : Row) (k : Sound w) where
   call-does : (c : Call) → T (fine c) → (outOf c (areaOf (only w)) ≡ writes (does c w .answer) (only (does c w .row))) × Sound (does c w .row)
   unfolding outOf fine does
   call-does (opening n) f = absurd f
-  call-does (reply p v s) f =
+  call-does (event p i x) f =
       let q = T-and (eqb p 5) _ .0 f in
-      let o = event-only v (replied v s) (q .1) in
-      (rw (eqb→eq p 5 (q .0)) (reply-is (areaOf (only w)) 5 v s ∙ o .0), o .1)
-  call-does (update p u r) f =
-      let q = T-and (eqb p 5) _ .0 f in
-      let o = event-only u (updated u r) (q .1) in
-      (rw (eqb→eq p 5 (q .0)) (update-is (areaOf (only w)) 5 u r ∙ o .0), o .1)
+      let o = event-only i x (q .1) in
+      (rw (eqb→eq p 5 (q .0)) (o .0), o .1)
   call-does (ask p s) f =
       let q = T-and (eqb p 5) _ .0 f in
       (rw (eqb→eq p 5 (q .0)) (ap (λ (d : Decided). stays (d .answer) (areaOf (only w))) (decide-only s (q .1))), k)
@@ -225,7 +208,7 @@ asks : (cs : List Call) (s : List ℕ) (q : ℕ) → T (allFine cs) → T (partO
 asks cs s q f b e l o = let r = from cs f l o in ap (λ (x : List ℕ). decideOf x 5 (setOf s)) (r .1) ∙ decide-only (left cs blank) (r .2) (setOf s) b ∙ e
 
 pub readings : Readings
-unfolding single allBelow joined common without setOf shares partOf rolesIn known any keep put inOrder hasPart hasProperPart losing apart reduce denying allowing clearing giving withdrawing contradicts step fits overflow settle lowest outside trailingZeros decide allFine fine told left does
+unfolding single allBelow joined common without setOf shares partOf rolesIn known any keep put inOrder hasPart hasProperPart losing apart reduce denying allowing clearing giving withdrawing contradicts step fits overflow settle lowest outside trailingZeros decide happened allFine fine told left does
 readings = record {
   no-row-empty-session = λ s g p v b. decide-none s g p v b 0 (bare 10) (empty-part (allBelow (s .roles))) refl;
   no-row-role-0 = λ s g p v b. decide-none s g p v b 1 (undecided 0) (partOf-allBelow (s .roles) 1 .1 (single-below (s .roles) 0 (g .some-roles))) refl;
@@ -245,6 +228,8 @@ readings = record {
   common-role = answered _ _ tt refl;
   common-role-asks = asks _ (2 ∷ []) _ tt tt refl;
   forgotten = answered _ _ tt refl;
+  as-sent = answered _ _ tt refl;
+  overtaken = answered _ _ tt refl;
   worked-row = kept _ _ tt refl refl;
   worked-answers = answered _ _ tt refl;
   worked-asks = asks _ (1 ∷ 5 ∷ []) _ tt tt refl;

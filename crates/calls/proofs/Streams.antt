@@ -14,6 +14,7 @@ use Rattle.meaning.specs.declared.Happening.{Happening}
 use Rattle.meaning.specs.declared.Happening.the-variants.{Allow, Deny, Given, Withdrawn}
 use Rattle.meaning.specs.Events.{Reply, after, Becomes, Possible}
 use Rattle.meaning.proofs.Trails.{becomes-swap}
+use Rattle.calls.specs.Calls.{happened}
 use Rattle.calls.specs.Histories.{Call, outOf, trailOn, trailAfter, rolesAfter, History, next, Begun, going, afterAll, callFor, callOf, calls, AllRecorded}
 use Rattle.calls.specs.Demands as demands
 
@@ -48,7 +49,7 @@ swapped-possible r n h = ((λ p. (p .0, p .1, swapped-becomes r (p .0) h (p .2))
 -- ---- where every event is answered 0, the trails are the stream's
 
 trail-call : (q p : ℕ) (e : Happening) (t : List Happening) → trailAfter q (callFor p e) 0 t ≡ cond (eqb p q) (t ++ e ∷ []) t
-unfolding trailAfter callFor trailOn
+unfolding trailAfter callFor trailOn happened
 trail-call q p (Allow s) t = refl
 trail-call q p (Deny s) t = refl
 trail-call q p (Given r) t = refl
@@ -72,9 +73,10 @@ all-begun [] g = g
 all-begun (c ∷ cs) g = all-begun cs (going c g)
 
 pub kinds : demands.Kinds
+unfolding happened
 kinds = record {
-  verdicts = λ s. (refl, refl);
-  kinds = λ r. (refl, refl);
+  replies = λ s. (refl, refl);
+  updates = λ r. (refl, refl);
   calls = λ p e t. trail-call p p e t ∙ ap (λ (b : Bool). cond b (t ++ e ∷ []) t) (eq-eqb p p refl);
 }
 

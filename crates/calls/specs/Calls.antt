@@ -3,13 +3,12 @@
 --     stays a l, writes a s the answer a, and the bytes l, or those of the state s
 --     valid p               p is a permission, 1 to 4,294,967,295
 --     fitsIn s p w          w fits as the row of p: at most 15 open sets, and where it would be a new row, fewer than 128 are used
---     openRefusals, areaRefusals, eventRefusals    the refusals of open, those that every other call begins with, those of an event
---     noRoom e              the answer to an event whose new row does not fit: 7 for a reply, 8 for an update
---     afterRefusal          what a refused event leaves: 8 takes the permission's row away, the others leave every byte
---     eventOn, eventOf      an event on a good area
---     replied, updated      the happening that a reply's or an update's numbers say
---     eventFor              an event that came in with a verdict or a kind
---     openOf, replyOf, updateOf, forgetOf    the calls, refusals in the order 1, 2, 3, 5, 4, 6, then 7 or 8
+--     openRefusals, areaRefusals    the refusals of open, those that every other call begins with
+--     lastKind, happened k x        kinds are 0 to this one; what happened, as kind and number say it
+--     eventRefusals         the refusals of an event before its row is looked at
+--     settledIn l s p t     t is the answer to an event on the row of p: 0 and 8 put the row in its place, 6 and 7 leave every byte
+--     eventOn, eventIn      an event of known roles on a good area
+--     openOf, eventOf, forgetOf    the calls, refusals in the order 1, 2, 3, 5, 4, 6, then 7 or 8
 --     decideOf              decide, refusals in the order 1, 3, 4: an answer and a role, 64 with each refusal; the bytes are only read
 use mathlib.Core.Bool.{Bool, not, cond, _&&_, _||_}
 use mathlib.Core.List.{List, [], _∷_}
@@ -20,8 +19,8 @@ use Rattle.roles.specs.Sets.{allBelow, partOf, mostRoles}
 use Rattle.refusals.specs.Refusals.{Refusal, refusal, refuse}
 use Rattle.meaning.specs.declared.Happening.{Happening}
 use Rattle.meaning.specs.declared.Happening.the-variants.{Allow, Deny, Given, Withdrawn}
-use Rattle.meaning.specs.Events.{known, isReply, lastPermission}
-use Rattle.meaning.specs.Rows.{Row, blank, fits, contradicts, step, Decided, bare, decide}
+use Rattle.meaning.specs.Events.{known, lastPermission}
+use Rattle.meaning.specs.Rows.{Row, blank, fits, Settled, settle, Decided, bare, decide}
 use Rattle.area.specs.Layout.{mostRows, areaBytes, goodBytes}
 use Rattle.area.specs.State.{State, opened, isBlank, rowFor, withRow, stateOf, areaOf}
 
@@ -56,43 +55,34 @@ areaRefusals l p rs = refusal 1 (not (goodBytes l)) ∷ refusal 3 (not (valid p)
 
 -- ---- events
 
-abbrev pub noRoom : Happening → ℕ
-noRoom e = cond (isReply e) 7 8
+abbrev pub lastKind : ℕ
+lastKind = 3
 
--- where w is the row of p before the event
-abbrev pub eventRefusals : State → ℕ → Happening → Row → List Refusal
-eventRefusals s p e w =
-    refusal 4 (not (known (s .roles) e))
-    ∷ refusal 6 (contradicts e w)
-    ∷ refusal (noRoom e) (not (fitsIn s p (step e w)))
-    ∷ []
+-- kind 0 is deny and 1 allow, and the number a set; 2 is withdrawn and 3 given, and the number a role
+unfoldable pub happened : ℕ → ℕ → Happening
+happened k x =
+    cond (eqb k 0) (Deny (record { bits = x }))
+    (cond (eqb k 1) (Allow (record { bits = x }))
+    (cond (eqb k 2) (Withdrawn x)
+    (Given x)))
+
+-- a kind that is none, an unknown role
+abbrev pub eventRefusals : List ℕ → ℕ → ℕ → Happening → List Refusal
+eventRefusals l p k e = areaRefusals l p (refusal 5 (not (leb k lastKind)) ∷ refusal 4 (not (known (stateOf l .roles) e)) ∷ [])
 
 -- on an area l that holds s
-abbrev pub afterRefusal : List ℕ → State → ℕ → ℕ → Out
-afterRefusal l s p a = cond (eqb a 8) (writes a (withRow s p blank)) (stays a l)
+abbrev pub settledIn : List ℕ → State → ℕ → Settled → Out
+settledIn l s p t = cond (eqb (t .answer) 0 || eqb (t .answer) 8) (writes (t .answer) (withRow s p (t .row))) (stays (t .answer) l)
 
+-- where w is the row of p before the event
 unfoldable pub eventOn : List ℕ → State → ℕ → Happening → Row → Out
-eventOn l s p e w = refuse (eventRefusals s p e w) (afterRefusal l s p) (writes 0 (withRow s p (step e w)))
+eventOn l s p e w = settledIn l s p (settle (fitsIn s p) e w)
 
-abbrev pub eventOf : List ℕ → ℕ → Happening → Out
-eventOf l p e = eventOn l (stateOf l) p e (rowFor p (stateOf l .rows))
+abbrev pub eventIn : List ℕ → ℕ → Happening → Out
+eventIn l p e = eventOn l (stateOf l) p e (rowFor p (stateOf l .rows))
 
--- verdict 0 is deny, 1 allow
-abbrev pub replied : ℕ → ℕ → Happening
-replied v s = cond (eqb v 1) (Allow (record { bits = s })) (Deny (record { bits = s }))
-
--- kind 0 is withdrawn, 1 given
-abbrev pub updated : ℕ → ℕ → Happening
-updated k r = cond (eqb k 1) (Given r) (Withdrawn r)
-
-unfoldable pub eventFor : List ℕ → ℕ → ℕ → Happening → Out
-eventFor l p v e = refuse (areaRefusals l p (refusal 5 (not (leb v 1)) ∷ [])) (λ a. stays a l) (eventOf l p e)
-
-unfoldable pub replyOf : List ℕ → ℕ → ℕ → ℕ → Out
-replyOf l p v s = eventFor l p v (replied v s)
-
-unfoldable pub updateOf : List ℕ → ℕ → ℕ → ℕ → Out
-updateOf l p k r = eventFor l p k (updated k r)
+unfoldable pub eventOf : List ℕ → ℕ → ℕ → ℕ → Out
+eventOf l p k x = refuse (eventRefusals l p k (happened k x)) (λ a. stays a l) (eventIn l p (happened k x))
 
 -- ---- decisions and forgetting
 

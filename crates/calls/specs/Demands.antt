@@ -1,11 +1,14 @@
 -- The three demands, as statements about the calls' definitions; `proofs/Demands.antt` proves them.
 --     OnGrounds              the answer is the number of the first ground that holds, and every answer but 0 and 8 leaves the bytes as they came
 --     IsRecorded a           a is 0, as it must be where no ground holds; decide has a verdict there
---     areaGrounds, eventGrounds    the grounds that all calls but open begin with; those of an event, in the order of Rules, Answers
+--     areaGrounds            the grounds that all calls but open begin with
+--     Unknown n k x          the number beside the kind k says a role at or above n: as a set for kinds 0 and 1, else as a role
 --     NoPlace s p w          w does not fit as the row of p
+--     noRoom k               what an event of the kind k is answered that does not fit
+--     eventGrounds           the grounds of an event, in the order of Rules, Answers
 --     Demand1                any numbers and any bytes get an answer of the table, each refusal exactly on its ground
 --     NoRow l p, Forgetting  p has no row; so it is after 8 and after a forget
---     Kinds                  what the numbers of a reply and of an update say, and the call by which each event comes in
+--     Kinds                  what each kind says of the number beside it, and the call by which each event comes in
 --     Demand2                over every history decide says what the possible holder sets of the trail force
 --     Whom                   with 12 it gives the one role to ask about; exactly with any other answer 64, on any bytes
 --     About q c              the call c is about the permission q, as opening is about every one
@@ -24,7 +27,7 @@
 --     Reordered              areas of streams in another order, every event answered 0 in both, are equal
 --     OneOutcome, OneDecision    any two outcomes that a call's contract allows are equal; so are any two of decide
 use mathlib.Core.Path.{_≡_}
-use mathlib.Core.Bool.{true, false}
+use mathlib.Core.Bool.{true, false, cond}
 use mathlib.Core.List.{List, [], _∷_, _++_}
 use mathlib.Core.Logic.{_↔_, _≢_, _⊎_}
 use Prim.Native.Nat.{ℕ, _^_, _≤_, _<_}
@@ -42,11 +45,11 @@ use Rattle.meaning.specs.Rows as meaning
 use Rattle.meaning.specs.Rows.{Row, Leaves, contradicts, step}
 use Rattle.area.specs.Layout.{goodBytes}
 use Rattle.area.specs.State.{State, GoodState, isBlank, rowFor, stateOf}
-use Rattle.calls.specs.Calls.{Out, valid, replied, updated, openOf, replyOf, updateOf, decideOf, forgetOf}
+use Rattle.calls.specs.Calls.{Out, valid, happened, openOf, eventOf, decideOf, forgetOf}
 use Rattle.calls.specs.declared.Answer.{Answer}
 use Rattle.calls.specs.declared.Decided.{Decided}
 use Rattle.calls.specs.Answers.{Gives, decidedOf}
-use Rattle.calls.specs.Histories.{Call, opening, reply, update, ask, forget, outOf, trailOn, trailAfter, callFor, calls, History, next, history, Begun, Moved, AllRecorded}
+use Rattle.calls.specs.Histories.{Call, opening, event, ask, forget, outOf, trailOn, trailAfter, callFor, calls, History, next, history, Begun, Moved, AllRecorded}
 
 -- ---- demand 1: any numbers and any lent bytes get a numbered answer, and answers 1 to 7 leave the lent area as it came
 
@@ -61,25 +64,33 @@ IsRecorded a = a ≡ 0
 abbrev pub areaGrounds : List ℕ → ℕ → List Ground → List Ground
 areaGrounds l p gs = ground 1 (¬ (T (goodBytes l))) ∷ ground 3 (¬ ((1 ≤ p) × (p ≤ 4294967295))) ∷ gs
 
+abbrev pub Unknown : ℕ → ℕ → ℕ → Type 0
+Unknown n k x = ((k ≤ 1) × (2 ^ n ≤ x)) ⊎ ((1 < k) × (n ≤ x))
+
 -- more than 15 open sets; or no row before, one afterwards, and 128 in use
 abbrev pub NoPlace : State → ℕ → Row → Type 0
 NoPlace s p w = (15 < length (w .opens)) ⊎ ((isBlank (rowFor p (s .rows)) ≡ true) × (isBlank w ≡ false) × (128 ≤ length (s .rows)))
 
--- bad verdict or kind, unknown role, contradiction, and last what does not fit
-abbrev pub eventGrounds : List ℕ → ℕ → ℕ → Happening → Type 0 → ℕ → List Ground
-eventGrounds l p v e unknown unfit =
+-- 7 for a reply, 8 for an update
+abbrev pub noRoom : ℕ → ℕ
+noRoom k = cond (leb k 1) 7 8
+
+-- a kind that is none, an unknown role, a contradiction, and last what does not fit
+abbrev pub eventGrounds : List ℕ → ℕ → ℕ → ℕ → List Ground
+eventGrounds l p k x =
+    let s : State = stateOf l in
+    let w : Row = rowFor p (s .rows) in
     areaGrounds l p (
-    ground 5 (1 < v)
-    ∷ ground 4 unknown
-    ∷ ground 6 (T (contradicts e (rowFor p (stateOf l .rows))))
-    ∷ ground unfit (NoPlace (stateOf l) p (step e (rowFor p (stateOf l .rows))))
+    ground 5 (3 < k)
+    ∷ ground 4 (Unknown (s .roles) k x)
+    ∷ ground 6 (T (contradicts (happened k x) w))
+    ∷ ground (noRoom k) (NoPlace s p (step (happened k x) w))
     ∷ []
     )
 
 pub record Demand1 : Type 0 where
   pub open-answers : (l : List ℕ) (n : ℕ) → OnGrounds l (openOf l n) (ground 1 (length l ≢ 18448) ∷ ground 2 (¬ ((1 ≤ n) × (n ≤ 64))) ∷ []) IsRecorded
-  pub reply-answers : (l : List ℕ) (p v s : ℕ) → OnGrounds l (replyOf l p v s) (eventGrounds l p v (replied v s) (2 ^ stateOf l .roles ≤ s) 7) IsRecorded
-  pub update-answers : (l : List ℕ) (p k r : ℕ) → OnGrounds l (updateOf l p k r) (eventGrounds l p k (updated k r) (stateOf l .roles ≤ r) 8) IsRecorded
+  pub event-answers : (l : List ℕ) (p k x : ℕ) → OnGrounds l (eventOf l p k x) (eventGrounds l p k x) IsRecorded
   pub decide-answers : (l : List ℕ) (p s : ℕ) → Exactly (decideOf l p s .answer) (areaGrounds l p (ground 4 (2 ^ stateOf l .roles ≤ s) ∷ [])) Verdict
   -- as a call of a history; decide itself is lent the area for reading
   pub decide-unchanged : (l : List ℕ) (p s : ℕ) → outOf (ask p s) l .area ≡ l
@@ -91,14 +102,14 @@ NoRow l p = isBlank (rowFor p (stateOf l .rows)) ≡ true
 
 -- after 8 and after a forget answered 0 the permission has no row; where it had none before, the bytes are as they came
 pub record Forgetting : Type 0 where
-  pub update-gone : (l : List ℕ) (p k r : ℕ) → updateOf l p k r .answer ≡ 8 → NoRow (updateOf l p k r .area) p
+  pub event-gone : (l : List ℕ) (p k x : ℕ) → eventOf l p k x .answer ≡ 8 → NoRow (eventOf l p k x .area) p
   pub forget-gone : (l : List ℕ) (p : ℕ) → forgetOf l p .answer ≡ 0 → NoRow (forgetOf l p .area) p
-  pub update-unchanged : (l : List ℕ) → Bytes l → (p k r : ℕ) → NoRow l p → updateOf l p k r .answer ≡ 8 → updateOf l p k r .area ≡ l
+  pub event-unchanged : (l : List ℕ) → Bytes l → (p k x : ℕ) → NoRow l p → eventOf l p k x .answer ≡ 8 → eventOf l p k x .area ≡ l
   pub forget-unchanged : (l : List ℕ) → Bytes l → (p : ℕ) → NoRow l p → forgetOf l p .answer ≡ 0 → forgetOf l p .area ≡ l
 
 pub record Kinds : Type 0 where
-  pub verdicts : (s : RoleSet) → (replied 0 (s .bits) ≡ Deny s) × (replied 1 (s .bits) ≡ Allow s)
-  pub kinds : (r : ℕ) → (updated 0 r ≡ Withdrawn r) × (updated 1 r ≡ Given r)
+  pub replies : (s : RoleSet) → (happened 0 (s .bits) ≡ Deny s) × (happened 1 (s .bits) ≡ Allow s)
+  pub updates : (r : ℕ) → (happened 2 r ≡ Withdrawn r) × (happened 3 r ≡ Given r)
   pub calls : (p : ℕ) (e : Happening) (t : List Happening) → trailAfter p (callFor p e) 0 t ≡ t ++ e ∷ []
 
 -- ---- demand 2: allow exactly when every possible holder set shares a role with the session, deny exactly when none does,
@@ -114,8 +125,7 @@ pub record Whom : Type 0 where
 
 abbrev pub About : ℕ → Call → Type 0
 About q (opening n) = Unit {0}
-About q (reply p v s) = p ≡ q
-About q (update p k r) = p ≡ q
+About q (event p k x) = p ≡ q
 About q (ask p s) = p ≡ q
 About q (forget p) = p ≡ q
 
@@ -123,8 +133,8 @@ abbrev pub NoOther : Type 0
 NoOther = (h : History) → Begun h → (c : Call) (q s : ℕ) → ¬ (About q c) → decideOf (next c h .area) q s ≡ decideOf (h .area) q s
 
 abbrev pub Contradicted : Type 0
-Contradicted = (h : History) → Begun h → (p v s : ℕ) → T (valid p) → T (leb v 1) → T (known (h .roles) (replied v s))
-    → (replyOf (h .area) p v s .answer ≡ 6) ↔ ((x : ℕ) → Possible (h .roles) (h .trail p) x → ¬ (T (agrees (replied v s) x)))
+Contradicted = (h : History) → Begun h → (p k x : ℕ) → T (valid p) → k ≤ 3 → T (known (h .roles) (happened k x))
+    → (eventOf (h .area) p k x .answer ≡ 6) ↔ ((s : ℕ) → Possible (h .roles) (h .trail p) s → ¬ (T (agrees (happened k x) s)))
 
 -- ---- full and forgotten: something is possible, and no area can say it
 
@@ -140,11 +150,9 @@ pub record Said (n p : ℕ) (t : ℕ → List Happening) (a b : ℕ) : Type 0 wh
   pub contradiction : (a ≡ 6) ↔ ((x : ℕ) → ¬ (Possible n (t p) x))
   pub unsayable : (a ≡ b) ↔ (((x : ℕ) × Possible n (t p) x) × ¬ (Sayable n t))
 
-pub record Full : Type 0 where
-  pub reply-said : (h : History) → Begun h → (p v s : ℕ) → T (valid p) → T (leb v 1) → T (known (h .roles) (replied v s))
-      → Said (h .roles) p (trailsWith h p (replied v s)) (replyOf (h .area) p v s .answer) 7
-  pub update-said : (h : History) → Begun h → (p k r : ℕ) → T (valid p) → T (leb k 1) → T (known (h .roles) (updated k r))
-      → Said (h .roles) p (trailsWith h p (updated k r)) (updateOf (h .area) p k r .answer) 8
+abbrev pub Full : Type 0
+Full = (h : History) → Begun h → (p k x : ℕ) → T (valid p) → k ≤ 3 → T (known (h .roles) (happened k x))
+    → Said (h .roles) p (trailsWith h p (happened k x)) (eventOf (h .area) p k x .answer) (noRoom k)
 
 -- ---- what a call about one permission can change of the answer to a call about another: whether there is room for a first row
 

@@ -22,19 +22,17 @@ use Rattle.meaning.specs.declared.Event.{Event}
 use Rattle.meaning.specs.declared.Happening.{Happening}
 use Rattle.meaning.specs.declared.Happening.the-variants.{Allow, Deny, Given, Withdrawn}
 use Rattle.meaning.specs.Events.{Reply}
-use Rattle.calls.specs.Calls.{Out, stays, replied, updated, openOf, replyOf, updateOf, decideOf, forgetOf}
+use Rattle.calls.specs.Calls.{Out, stays, happened, openOf, eventOf, decideOf, forgetOf}
 
 pub data Call : Type 0 where
   opening : (n : ℕ) → Call
-  reply : (p v s : ℕ) → Call
-  update : (p k r : ℕ) → Call
+  event : (p k x : ℕ) → Call
   ask : (p s : ℕ) → Call
   forget : (p : ℕ) → Call
 
 unfoldable pub outOf : Call → List ℕ → Out
 outOf (opening n) l = openOf l n
-outOf (reply p v s) l = replyOf l p v s
-outOf (update p k r) l = updateOf l p k r
+outOf (event p k x) l = eventOf l p k x
 outOf (ask p s) l = stays (decideOf l p s .answer) l
 outOf (forget p) l = forgetOf l p
 
@@ -43,15 +41,13 @@ trailOn q p e a t = cond (eqb p q) (cond (eqb a 0) (t ++ e ∷ []) (cond (eqb a 
 
 unfoldable pub trailAfter : ℕ → Call → ℕ → List Happening → List Happening
 trailAfter q (opening n) a t = cond (eqb a 0) [] t
-trailAfter q (reply p v s) a t = trailOn q p (replied v s) a t
-trailAfter q (update p k r) a t = trailOn q p (updated k r) a t
+trailAfter q (event p k x) a t = trailOn q p (happened k x) a t
 trailAfter q (ask p s) a t = t
 trailAfter q (forget p) a t = cond (eqb p q) (cond (eqb a 0) [] t) t
 
 unfoldable pub rolesAfter : Call → ℕ → ℕ → ℕ
 rolesAfter (opening m) a n = cond (eqb a 0) m n
-rolesAfter (reply p v s) a n = n
-rolesAfter (update p k r) a n = n
+rolesAfter (event p k x) a n = n
 rolesAfter (ask p s) a n = n
 rolesAfter (forget p) a n = n
 
@@ -82,10 +78,10 @@ history l n cs = afterAll cs (afterOpening l n)
 -- ---- streams of events
 
 unfoldable pub callFor : ℕ → Happening → Call
-callFor p (Allow s) = reply p 1 (s .bits)
-callFor p (Deny s) = reply p 0 (s .bits)
-callFor p (Given r) = update p 1 r
-callFor p (Withdrawn r) = update p 0 r
+callFor p (Deny s) = event p 0 (s .bits)
+callFor p (Allow s) = event p 1 (s .bits)
+callFor p (Withdrawn r) = event p 2 r
+callFor p (Given r) = event p 3 r
 
 abbrev pub callOf : Event → Call
 callOf e = callFor (e .permission) (e .happening)

@@ -1,6 +1,6 @@
 -- Rules, Readings: those marked P, a forget, and the worked case of the Paper, section 3.4. Calls about permission 5 with plain numbers, on any
 -- area opened with the role count 8; sets are written by their roles.
---     allow, deny, give, withdraw, decide    the calls about permission 5
+--     deny, allow, withdraw, give, decide    the calls about permission 5
 --     answers cs l         what the calls answer, one after another on the area l
 --     Answered cs ns       after any opening the calls are answered by the numbers ns
 --     Kept cs w            after any opening the calls are all answered 0, and then w is the row of 5
@@ -16,22 +16,20 @@ use lib.Dec.{T}
 use Rattle.roles.specs.Sets.{setOf}
 use Rattle.meaning.specs.Rows.{Row, blank}
 use Rattle.area.specs.State.{State, GoodState, isBlank, rowFor, stateOf, areaOf}
-use Rattle.calls.specs.Calls.{stays, valid, openOf, replyOf, decideOf}
-use Rattle.calls.specs.Histories.{Call, reply, update, ask, forget, outOf, history}
-
--- verdict 1 is allow, 0 deny
-abbrev pub allow : List ℕ → Call
-allow s = reply 5 1 (setOf s)
+use Rattle.calls.specs.Calls.{stays, valid, openOf, eventOf, decideOf}
+use Rattle.calls.specs.Histories.{Call, event, ask, forget, outOf, history}
 
 abbrev pub deny : List ℕ → Call
-deny s = reply 5 0 (setOf s)
+deny s = event 5 0 (setOf s)
 
--- kind 1 is given, 0 withdrawn
-abbrev pub give : ℕ → Call
-give r = update 5 1 r
+abbrev pub allow : List ℕ → Call
+allow s = event 5 1 (setOf s)
 
 abbrev pub withdraw : ℕ → Call
-withdraw r = update 5 0 r
+withdraw r = event 5 2 r
+
+abbrev pub give : ℕ → Call
+give r = event 5 3 r
 
 abbrev pub decide : List ℕ → Call
 decide s = ask 5 (setOf s)
@@ -60,8 +58,8 @@ pub record Readings : Type 0 where
   -- without a row, on any good area: decide on - and on 0; allow on -; deny on - makes no row, also with 128 rows
   pub no-row-empty-session : (s : State) → GoodState s → (p : ℕ) → T (valid p) → isBlank (rowFor p (s .rows)) ≡ true → decideOf (areaOf s) p 0 ≡ record { answer = 10; role = 64 }
   pub no-row-role-0 : (s : State) → GoodState s → (p : ℕ) → T (valid p) → isBlank (rowFor p (s .rows)) ≡ true → decideOf (areaOf s) p 1 ≡ record { answer = 12; role = 0 }
-  pub allow-nobody : (s : State) → GoodState s → (p : ℕ) → T (valid p) → replyOf (areaOf s) p 1 0 ≡ stays 6 (areaOf s)
-  pub deny-nobody : (s : State) → GoodState s → (p : ℕ) → T (valid p) → isBlank (rowFor p (s .rows)) ≡ true → replyOf (areaOf s) p 0 0 ≡ stays 0 (areaOf s)
+  pub allow-nobody : (s : State) → GoodState s → (p : ℕ) → T (valid p) → eventOf (areaOf s) p 1 0 ≡ stays 6 (areaOf s)
+  pub deny-nobody : (s : State) → GoodState s → (p : ℕ) → T (valid p) → isBlank (rowFor p (s .rows)) ≡ true → eventOf (areaOf s) p 0 0 ≡ stays 0 (areaOf s)
   -- and after an opening, as the calls below
   pub no-row : Answered (decide [] ∷ decide (0 ∷ []) ∷ allow [] ∷ []) (10 ∷ 12 ∷ 6 ∷ [])
   pub deny-nobody-kept : Kept (deny [] ∷ []) blank
@@ -77,6 +75,9 @@ pub record Readings : Type 0 where
   pub common-role : Answered (allow (1 ∷ 2 ∷ []) ∷ allow (2 ∷ 3 ∷ []) ∷ decide (2 ∷ []) ∷ []) (0 ∷ 0 ∷ 12 ∷ [])
   pub common-role-asks : Asks (allow (1 ∷ 2 ∷ []) ∷ allow (2 ∷ 3 ∷ []) ∷ []) (2 ∷ []) 2
   pub forgotten : Answered (deny (1 ∷ []) ∷ forget 5 ∷ decide (1 ∷ []) ∷ []) (0 ∷ 0 ∷ 12 ∷ [])
+  -- a reply that was sent after a withdrawal, taken in that order and before it
+  pub as-sent : Answered (allow (2 ∷ 3 ∷ []) ∷ withdraw 2 ∷ deny (2 ∷ []) ∷ decide (3 ∷ []) ∷ []) (0 ∷ 0 ∷ 0 ∷ 12 ∷ [])
+  pub overtaken : Answered (allow (2 ∷ 3 ∷ []) ∷ deny (2 ∷ []) ∷ withdraw 2 ∷ decide (3 ∷ []) ∷ []) (0 ∷ 0 ∷ 0 ∷ 11 ∷ [])
   pub worked-row : Kept worked (row (1 ∷ 2 ∷ 4 ∷ 7 ∷ []) ((3 ∷ []) ∷ (5 ∷ 6 ∷ []) ∷ []))
   pub worked-answers : Answered (worked ++ decide (3 ∷ 4 ∷ []) ∷ decide (1 ∷ 4 ∷ 7 ∷ []) ∷ decide (1 ∷ 5 ∷ []) ∷ []) (0 ∷ 0 ∷ 0 ∷ 0 ∷ 11 ∷ 10 ∷ 12 ∷ [])
   pub worked-asks : Asks worked (1 ∷ 5 ∷ []) 5

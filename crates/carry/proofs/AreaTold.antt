@@ -21,10 +21,10 @@ use Rattle.meaning.proofs.Theorems.{settle-law, step-good}
 use Rattle.area.specs.Layout.{mostRows}
 use Rattle.area.specs.State.{Entry, State, opened, withRows, isBlank, GoodRow, GoodState, areaOf, rowFor, put, withRow}
 use Rattle.area.proofs.RowLaws.{isBlank-law, rowFor-put-same, put-again, put-not, hit-law, rows-first, next-good, next-absent, put-next}
-use Rattle.calls.specs.Calls.{Out, writes, valid, fitsIn, eventOn}
+use Rattle.calls.specs.Calls.{Out, writes, valid, fitsIn, happened, eventOn}
 use Rattle.calls.specs.Histories.{outOf, callFor, callOf}
-use Rattle.calls.proofs.CallLaws.{valid-law, fitsIn-over, fitsIn-room, event-recorded, reply-is, update-is, for-good}
-use Rattle.calls.proofs.Outcomes.{put-state, area-is-good, event-is}
+use Rattle.calls.proofs.CallLaws.{valid-law, fitsIn-over, fitsIn-room, event-recorded}
+use Rattle.calls.proofs.Outcomes.{put-state, event-is}
 use Rattle.print.specs.Printed.{repliesOf}
 use Rattle.carry.proofs.RowTold.{told-again}
 
@@ -48,12 +48,12 @@ tells-then (e ∷ es) fs l m k a b = (a .0, tells-then es fs (outOf (callOf e) l
 
 module _ (s : State) (g : GoodState s) (p : ℕ) (v : T (valid p)) where
   -- the call of an event, on the state that the area holds
-  call-is : (e : Happening) → outOf (callFor p e) (areaOf s) ≡ eventOn (areaOf s) s p e (rowFor p (s .rows))
-  unfolding outOf callFor
-  call-is (Allow u) = reply-is (areaOf s) p 1 (u .bits) ∙ for-good (areaOf s) p 1 (Allow u) (area-is-good s g) (T-true (valid p) v) refl ∙ event-is s g p (Allow u)
-  call-is (Deny u) = reply-is (areaOf s) p 0 (u .bits) ∙ for-good (areaOf s) p 0 (Deny u) (area-is-good s g) (T-true (valid p) v) refl ∙ event-is s g p (Deny u)
-  call-is (Given r) = update-is (areaOf s) p 1 r ∙ for-good (areaOf s) p 1 (Given r) (area-is-good s g) (T-true (valid p) v) refl ∙ event-is s g p (Given r)
-  call-is (Withdrawn r) = update-is (areaOf s) p 0 r ∙ for-good (areaOf s) p 0 (Withdrawn r) (area-is-good s g) (T-true (valid p) v) refl ∙ event-is s g p (Withdrawn r)
+  call-is : (e : Happening) → T (known (s .roles) e) → outOf (callFor p e) (areaOf s) ≡ eventOn (areaOf s) s p e (rowFor p (s .rows))
+  unfolding outOf callFor happened
+  call-is (Deny u) = event-is s g p 0 (u .bits) v tt
+  call-is (Allow u) = event-is s g p 1 (u .bits) v tt
+  call-is (Withdrawn r) = event-is s g p 2 r v tt
+  call-is (Given r) = event-is s g p 3 r v tt
 
 -- ---- the events of a permission that has no row yet
 
@@ -103,9 +103,9 @@ module _ (s : State) (g : GoodState s) (p : ℕ) (v : T (valid p)) (absent : row
       let place : fitsIn (at w) p w′ ≡ true = has-place w w′ (T-true (fits w′) (fits-law w′ .1 (law .1))) in
       let same : withRow (at w) p w′ ≡ at w′ = again w w′ h h′ in
       let out : outOf (callFor p e) (areaOf (at w)) ≡ writes 0 (at w′) =
-      call-is (at w) gs p v e
+      call-is (at w) gs p v e (r .0)
       ∙ ap (eventOn (areaOf (at w)) (at w) p e) (found w)
-      ∙ event-recorded (areaOf (at w)) (at w) p e w (T-true (known (s .roles) e) (r .0)) (T-false (contradicts e w) (law .0)) place
+      ∙ event-recorded (areaOf (at w)) (at w) p e w (T-false (contradicts e w) (law .0)) place
       ∙ ap (writes 0) same in
       let gs′ : GoodState (at w′) = subst GoodState same (put-state (at w) gs p v w′ (h′ .good) (subst⁻¹ T place tt)) in
       let rest = tell-row es w′ h′ gs′ (r .2) in

@@ -1,5 +1,5 @@
 -- The answer to an event, exactly on its ground, and the row afterwards. Assumes nothing.
-use mathlib.Core.Path.{_≡_, refl, subst⁻¹}
+use mathlib.Core.Path.{_≡_, refl, ap, subst⁻¹}
 use mathlib.Core.Bool.{Bool, true, false, not, cond}
 use mathlib.Core.Logic.{_↔_, ⊎-elim}
 use Prim.Native.Nat.{ℕ, _≤_, _<_}
@@ -33,33 +33,38 @@ update-agrees (Given r) w n = tt
 update-agrees (Withdrawn r) w n = tt
 
 -- the answer is one of four, by the two tests and by whether the event is a reply
-pub data Case (e : Happening) (w : Row) : Settled → Type 0 where
-  refused : T (contradicts e w) → Case e w (unchanged 6 w)
-  taken : T (not (contradicts e w)) → T (fits (step e w)) → Case e w (record { answer = 0; row = step e w })
-  no-room : Reply e → T (not (contradicts e w)) → T (not (fits (step e w))) → Case e w (unchanged 7 w)
-  dropped : ¬ (Reply e) → T (not (fits (step e w))) → Case e w forgotten
+pub data Case (fit : Row → Bool) (e : Happening) (w : Row) : Settled → Type 0 where
+  refused : T (contradicts e w) → Case fit e w (unchanged 6 w)
+  taken : T (not (contradicts e w)) → T (fit (step e w)) → Case fit e w (record { answer = 0; row = step e w })
+  no-room : Reply e → T (not (contradicts e w)) → T (not (fit (step e w))) → Case fit e w (unchanged 7 w)
+  dropped : ¬ (Reply e) → T (not (fit (step e w))) → Case fit e w forgotten
 
-pub case : (e : Happening) (w : Row) → Case e w (settle e w)
+pub case : (fit : Row → Bool) (e : Happening) (w : Row) → Case fit e w (settle fit e w)
 unfolding settle overflow
-case e w = go (contradicts e w) (fits (step e w)) refl refl
+case fit e w = go (contradicts e w) (fit (step e w)) refl refl
   where
-    over : (e : Happening) → T (not (contradicts e w)) → T (not (fits (step e w))) → Case e w (overflow e w)
+    over : (e : Happening) → T (not (contradicts e w)) → T (not (fit (step e w))) → Case fit e w (overflow e w)
     over (Allow s) c f = no-room tt c f
     over (Deny s) c f = no-room tt c f
     over (Given r) c f = dropped (λ x. x) f
     over (Withdrawn r) c f = dropped (λ x. x) f
 
-    go : (a b : Bool) → contradicts e w ≡ a → fits (step e w) ≡ b → Case e w (cond a (unchanged 6 w) (cond b (record { answer = 0; row = step e w }) (overflow e w)))
+    go : (a b : Bool) → contradicts e w ≡ a → fit (step e w) ≡ b → Case fit e w (cond a (unchanged 6 w) (cond b (record { answer = 0; row = step e w }) (overflow e w)))
     go true b p q = refused (subst⁻¹ T p tt)
     go false true p q = taken (subst⁻¹ (λ (x : Bool). T (not x)) p tt) (subst⁻¹ T q tt)
     go false false p q = over e (subst⁻¹ (λ (x : Bool). T (not x)) p tt) (subst⁻¹ (λ (x : Bool). T (not x)) q tt)
+
+-- what has room counts for the row after the event alone
+pub settle-by : (fit fit′ : Row → Bool) (e : Happening) (w : Row) → fit (step e w) ≡ fit′ (step e w) → settle fit e w ≡ settle fit′ e w
+unfolding settle
+settle-by fit fit′ e w q = ap (λ (b : Bool). cond (contradicts e w) (unchanged 6 w) (cond b (record { answer = 0; row = step e w }) (overflow e w))) q
 
 module _ (n : ℕ) (e : Happening) (w : Row) (g : Good n w) (k : T (known n e)) where
   -- too many and few enough exclude each other
   apart : {A : Type 0} → T (fits (step e w)) → mostOpens < length (step e w .opens) → A
   apart f m = let l = fits-law (step e w) .0 f in absurd (let z : ⊥ = omega arith in z)
 
-  settles : (t : Settled) → Case e w t → Settles n e w t
+  settles : (t : Settled) → Case fits e w t → Settles n e w t
   settles t (refused c) = record {
     contradiction = ((λ q. contradicts-law n w e g k .0 c), (λ f. refl));
     full = (unlike tt, (λ p. absurd (T-not (contradicts e w) (p .1) c)));
@@ -98,34 +103,34 @@ module _ (n : ℕ) (e : Happening) (w : Row) (g : Good n w) (k : T (known n e)) 
   }
 
   -- each answer exactly on its ground, with its row
-  pub settle-law : Settles n e w (settle e w)
-  settle-law = settles (settle e w) (case e w)
+  pub settle-law : Settles n e w (settle fits e w)
+  settle-law = settles (settle fits e w) (case fits e w)
 
   -- the row afterwards is good
-  pub settle-good : Good n (settle e w .row)
-  settle-good = go (settle e w) (case e w)
+  pub settle-good : Good n (settle fits e w .row)
+  settle-good = go (settle fits e w) (case fits e w)
     where
-      go : (t : Settled) → Case e w t → Good n (t .row)
+      go : (t : Settled) → Case fits e w t → Good n (t .row)
       go t (refused c) = g
       go t (taken c f) = step-good n w e g k c
       go t (no-room r c f) = g
       go t (dropped r f) = blank-good n
 
 -- and fits where it fitted before
-pub settle-fits : (e : Happening) (w : Row) → T (fits w) → T (fits (settle e w .row))
-settle-fits e w h = go (settle e w) (case e w)
+pub settle-fits : (e : Happening) (w : Row) → T (fits w) → T (fits (settle fits e w .row))
+settle-fits e w h = go (settle fits e w) (case fits e w)
   where
-    go : (t : Settled) → Case e w t → T (fits (t .row))
+    go : (t : Settled) → Case fits e w t → T (fits (t .row))
     go t (refused c) = h
     go t (taken c f) = f
     go t (no-room r c f) = h
     go t (dropped r f) = fits-law blank .1 (omega arith)
 
 -- an event answered 0 contradicts nothing
-pub recorded⇒agrees : (e : Happening) (w : Row) → settle e w .answer ≡ 0 → T (not (contradicts e w))
-recorded⇒agrees e w = go (settle e w) (case e w)
+pub recorded⇒agrees : (e : Happening) (w : Row) → settle fits e w .answer ≡ 0 → T (not (contradicts e w))
+recorded⇒agrees e w = go (settle fits e w) (case fits e w)
   where
-    go : (t : Settled) → Case e w t → t .answer ≡ 0 → T (not (contradicts e w))
+    go : (t : Settled) → Case fits e w t → t .answer ≡ 0 → T (not (contradicts e w))
     go t (refused c) q = unlike tt q
     go t (taken c f) q = c
     go t (no-room r c f) q = c

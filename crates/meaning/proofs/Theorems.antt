@@ -37,13 +37,13 @@ pub step-good : (n : ℕ) (w : Row) (e : Happening) → Good n w → T (known n 
 step-good = kept.step-good
 
 -- each answer exactly on its ground, with the row afterwards; that row is good, and fits where it fitted before
-pub settle-law : (n : ℕ) (e : Happening) (w : Row) → Good n w → T (known n e) → Settles n e w (settle e w)
+pub settle-law : (n : ℕ) (e : Happening) (w : Row) → Good n w → T (known n e) → Settles n e w (settle fits e w)
 settle-law = answers.settle-law
 
-pub settle-good : (n : ℕ) (e : Happening) (w : Row) → Good n w → T (known n e) → Good n (settle e w .row)
+pub settle-good : (n : ℕ) (e : Happening) (w : Row) → Good n w → T (known n e) → Good n (settle fits e w .row)
 settle-good = answers.settle-good
 
-pub settle-fits : (e : Happening) (w : Row) → T (fits w) → T (fits (settle e w .row))
+pub settle-fits : (e : Happening) (w : Row) → T (fits w) → T (fits (settle fits e w .row))
 settle-fits = answers.settle-fits
 
 -- on a good row {r} becomes an open set beside the others, and reducing changes nothing

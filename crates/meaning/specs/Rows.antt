@@ -18,7 +18,7 @@
 --     unchanged a w        the answer a, and the row as it was
 --     forgotten            the answer 8, and the row is gone
 --     overflow e w         the answer to an event whose new row does not fit: 7 full, 8 forgotten
---     settle e w           the answer to the event: 6 contradiction, 0 recorded, else `overflow`
+--     settle fit e w       the answer to the event, where fit says which rows have room: 6 contradiction, 0 recorded, else `overflow`
 --     rowAfter w es        the row after a trail
 --     Recorded n w es      every event of the trail names known roles and is answered 0 when it arrives
 --     Settles n e w t      t is the answer and the row exactly on their grounds
@@ -140,10 +140,10 @@ forgotten = record { answer = 8; row = blank }
 unfoldable pub overflow : Happening → Row → Settled
 overflow e w = cond (isReply e) (unchanged 7 w) forgotten
 
-unfoldable pub settle : Happening → Row → Settled
-settle e w =
+unfoldable pub settle : (Row → Bool) → Happening → Row → Settled
+settle fit e w =
     cond (contradicts e w) (unchanged 6 w)
-    (cond (fits (step e w)) (record { answer = 0; row = step e w }) (overflow e w))
+    (cond (fit (step e w)) (record { answer = 0; row = step e w }) (overflow e w))
 
 unfoldable pub rowAfter : Row → List Happening → Row
 rowAfter w [] = w
@@ -151,7 +151,7 @@ rowAfter w (e ∷ es) = rowAfter (step e w) es
 
 abbrev pub Recorded : ℕ → Row → List Happening → Type 0
 Recorded n w [] = Unit {0}
-Recorded n w (e ∷ es) = T (known n e) × (settle e w .answer ≡ 0) × Recorded n (step e w) es
+Recorded n w (e ∷ es) = T (known n e) × (settle fits e w .answer ≡ 0) × Recorded n (step e w) es
 
 -- what the answer to an event says, and what stands afterwards
 pub record Settles (n : ℕ) (e : Happening) (w : Row) (t : Settled) : Type 0 where

@@ -4,7 +4,7 @@ use print::Written;
 use print::print_open;
 use print::print_row;
 ghost use mathlib.Core.Path.{_≡_};
-ghost use Rattle.calls.specs.Calls.{openOf, replyOf, updateOf, decideOf, forgetOf};
+ghost use Rattle.calls.specs.Calls.{openOf, eventOf, decideOf, forgetOf};
 ghost use Rattle.print.specs.Print.{printOpenOf, printRowOf, Prints};
 ghost use Rattle.wickthrush.specs.Numbers.{Returns, decidedOf};
 
@@ -16,17 +16,10 @@ pub extern "C" fn wickthrush_open(area: &mut [u8], roles: u64) -> u32
 }
 
 #[no_mangle]
-pub extern "C" fn wickthrush_reply(area: &mut [u8], permission: u32, verdict: u64, set: u64) -> u32
-    ensures { λ n. ⌜ Returns (replyOf (now (area .entry)) permission verdict set) n (now (area .exit)) ⌝ }
+pub extern "C" fn wickthrush_event(area: &mut [u8], permission: u32, kind: u64, number: u64) -> u32
+    ensures { λ n. ⌜ Returns (eventOf (now (area .entry)) permission kind number) n (now (area .exit)) ⌝ }
 {
-    number(cache::reply(area, permission, verdict, set))
-}
-
-#[no_mangle]
-pub extern "C" fn wickthrush_update(area: &mut [u8], permission: u32, kind: u64, role: u64) -> u32
-    ensures { λ n. ⌜ Returns (updateOf (now (area .entry)) permission kind role) n (now (area .exit)) ⌝ }
-{
-    number(cache::update(area, permission, kind, role))
+    calls::number(cache::event(area, permission, kind, number))
 }
 
 // `wickthrush_decided` of the header. C gets it by value, so that a caller who takes it for the answer does not compile.

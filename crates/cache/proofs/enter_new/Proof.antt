@@ -1,54 +1,52 @@
 -- `cache::enter_new` meets its contract. Assumes nothing.
 use borrow.Author.Needs.{needs}
-use mathlib.Core.Path.{_≡_, ap, _∙_, subst⁻¹}
-use mathlib.Core.Bool.{Bool, not}
+use mathlib.Core.Path.{_≡_, refl, sym, ap, _∙_}
+use mathlib.Core.Bool.{false, not, _||_}
 use mathlib.Core.List.{List}
+use mathlib.Core.Logic.{_≢_}
 use Prim.Native.Nat.{ℕ}
-use lib.Dec.{T}
+use lib.Dec.{T, eqb}
+use Rattle.roles.proofs.Tests.{unlike}
 use Rattle.words.specs.Words.{Bytes}
 use Rattle.meaning.specs.declared.Happening.{Happening}
-use Rattle.meaning.specs.Events.{known}
-use Rattle.meaning.specs.Rows.{Row, blank, settle}
+use Rattle.meaning.specs.Rows.{Row, blank, fits, settle}
 use Rattle.area.specs.State.{isBlank, stateOf}
 use Rattle.rows.specs.Stored.{rowOf, storedRow}
 use Rattle.rows.specs.declared.Row as value
 use Rattle.rows.proofs.Padded.{stored⇒row}
 use Rattle.table.specs.Table.{rowsIn, Sound, foundFor}
 use Rattle.table.specs.declared.Found.the-variants.{Vacant}
+use Rattle.calls.specs.declared.Answer.{Answer}
 use Rattle.calls.specs.declared.Answer.the-variants.{Contradiction, Full, Forgotten}
-use Rattle.calls.specs.Calls.{stays, eventOf}
-use Rattle.calls.specs.Answers.{Gives}
+use Rattle.calls.specs.Calls.{stays, settledIn, eventIn}
+use Rattle.calls.specs.Answers.{numberOf, Gives}
 use Rattle.cache.specs.Fresh.{Fresh}
-use Rattle.roles.proofs.Tests.{T-true}
-use Rattle.cache.proofs.Ladder.{gives, Entered, entered}
+use Rattle.cache.proofs.Ladder.{gives, settled-refused, settled-stays, settled-writes, recorded⇒taken, forgotten⇒blank}
 use Rattle.cache.proofs.Writes.{event-none, area-kept, blank-proper, known-64, answered}
 use Rattle.cache.proofs.enter_new.Statement.{statement}
 use Rattle.cache.proofs.enter_new.Tie as tie
 
 -- ---- the cases, by the answer of the step
 
-module _ (l : List ℕ) (s : Sound l) (p i : ℕ) (e : Happening) (f : foundFor p (rowsIn l) ≡ Vacant i) (k : T (known (stateOf l .roles) e)) where
-  law : Entered l (stateOf l) p e blank (settle e blank)
-  law = entered l (stateOf l) p e blank (T-true (known (stateOf l .roles) e) k)
+module _ (l : List ℕ) (s : Sound l) (p i : ℕ) (e : Happening) (f : foundFor p (rowsIn l) ≡ Vacant i) where
+  refused : settle fits e blank .answer ≢ 0 → eventIn l p e ≡ settledIn l (stateOf l) p (settle fits e blank)
+  refused n = event-none l s p i f e ∙ settled-refused l (stateOf l) p e blank n
 
-  against : settle e blank .answer ≡ 6 → Gives (eventOf l p e) Contradiction l
-  against a = gives (eventOf l p e) Contradiction l (event-none l s p i f e ∙ law .contradiction a)
+  -- 6 and 7
+  refuses : (r : Answer) → T (not (eqb (numberOf r) 0)) → settle fits e blank .answer ≡ numberOf r → (eqb (numberOf r) 0 || eqb (numberOf r) 8) ≡ false → Gives (eventIn l p e) r l
+  refuses r n a x = gives (eventIn l p e) r l (refused (λ z. unlike n (sym a ∙ z)) ∙ settled-stays l (stateOf l) p (settle fits e blank) (numberOf r) a x)
 
-  too-many : settle e blank .answer ≡ 7 → Gives (eventOf l p e) Full l
-  too-many a = gives (eventOf l p e) Full l (event-none l s p i f e ∙ law .full a)
+  -- there is no row to be dropped
+  drops : Bytes l → settle fits e blank .answer ≡ 8 → Gives (eventIn l p e) Forgotten l
+  drops bytes a =
+      gives (eventIn l p e) Forgotten l
+      (refused (λ z. unlike tt (sym a ∙ z)) ∙ settled-writes l (stateOf l) p (settle fits e blank) 8 a refl
+      ∙ ap (stays 8) (area-kept l s p i f (settle fits e blank .row) (ap isBlank (forgotten⇒blank e blank a)) bytes))
 
-  dropped : Bytes l → settle e blank .answer ≡ 8 → Gives (eventOf l p e) Forgotten l
-  dropped bytes a =
-      gives (eventOf l p e) Forgotten l
-      (event-none l s p i f e ∙ law .forgets a ∙ ap (stays 8) (area-kept l s p i f (settle e blank .row) (ap isBlank (law .forgets-row a)) bytes))
-
-  fresh : (w : value.Row) → w ≡ storedRow (settle e blank .row) → settle e blank .answer ≡ 0 → Fresh (stateOf l .roles) e w
-  fresh w q a = record {
-    is-known = k;
-    agrees = subst⁻¹ (λ (b : Bool). T (not b)) (law .agrees a) tt;
-    room = subst⁻¹ T (law .fitting a) tt;
-    row = q ∙ ap storedRow (law .row a);
-  }
+fresh : (e : Happening) (w : value.Row) → w ≡ storedRow (settle fits e blank .row) → settle fits e blank .answer ≡ 0 → Fresh e w
+fresh e w q a =
+    let t = recorded⇒taken e blank a in
+    record { agrees = t .agrees; room = t .room; row = q ∙ ap storedRow (t .row) }
 
 -- ---- the needs
 
@@ -62,23 +60,23 @@ returns c =
     let t = c .before .before .before in
     let b = t .before in
     let s = b .before .before in
-    against (s .args .a .now) (s .pre .0) (s .args .p) (s .args .i) (s .args .e) (s .pre .1) (s .pre .2)
-    (answered (s .args .e) (rowOf (b .blank .result)) blank (t .settle .result) _ (stored⇒row (b .blank .result) blank (b .blank .ensures)) (t .settle .ensures) (c .enum-told .given .1))
+    refuses (s .args .a .now) (s .pre .0) (s .args .p) (s .args .i) (s .args .e) (s .pre .1) Contradiction tt
+    (answered (s .args .e) (rowOf (b .blank .result)) blank (t .settle .result) _ (stored⇒row (b .blank .result) blank (b .blank .ensures)) (t .settle .ensures) (c .enum-told .given .1)) refl
 
 returns-2 : tie.Need-returns-2
 returns-2 c =
     let t = c .before .before .before in
     let b = t .before in
     let s = b .before .before in
-    too-many (s .args .a .now) (s .pre .0) (s .args .p) (s .args .i) (s .args .e) (s .pre .1) (s .pre .2)
-    (answered (s .args .e) (rowOf (b .blank .result)) blank (t .settle .result) _ (stored⇒row (b .blank .result) blank (b .blank .ensures)) (t .settle .ensures) (c .enum-told2 .given .1))
+    refuses (s .args .a .now) (s .pre .0) (s .args .p) (s .args .i) (s .args .e) (s .pre .1) Full tt
+    (answered (s .args .e) (rowOf (b .blank .result)) blank (t .settle .result) _ (stored⇒row (b .blank .result) blank (b .blank .ensures)) (t .settle .ensures) (c .enum-told2 .given .1)) refl
 
 returns-3 : tie.Need-returns-3
 returns-3 c =
     let t = c .before .before .before in
     let b = t .before in
     let s = b .before .before in
-    dropped (s .args .a .now) (s .pre .0) (s .args .p) (s .args .i) (s .args .e) (s .pre .1) (s .pre .2) (λ p. b .before .slice-known .given p .fits)
+    drops (s .args .a .now) (s .pre .0) (s .args .p) (s .args .i) (s .args .e) (s .pre .1) (λ p. b .before .slice-known .given p .fits)
     (answered (s .args .e) (rowOf (b .blank .result)) blank (t .settle .result) _ (stored⇒row (b .blank .result) blank (b .blank .ensures)) (t .settle .ensures) (c .enum-told3 .given .1))
 
 put-new-requires : tie.Need-put-new-requires
@@ -90,8 +88,8 @@ put-new-requires c κs =
     let ew = stored⇒row (b .blank .result) blank (b .blank .ensures) in (
       s .pre .0,
       s .pre .1,
-      fresh (s .args .a .now) (s .pre .0) (s .args .p) (s .args .i) (s .args .e) (s .pre .1) (s .pre .2) (t .settle .result .row)
-          (t .settle .ensures .row ∙ ap (λ (x : Row). storedRow (settle (s .args .e) x .row)) ew)
+      fresh (s .args .e) (t .settle .result .row)
+          (t .settle .ensures .row ∙ ap (λ (x : Row). storedRow (settle fits (s .args .e) x .row)) ew)
           (answered (s .args .e) (rowOf (b .blank .result)) blank (t .settle .result) _ ew (t .settle .ensures) (told .enum-told4 .given .1)),
     )
 

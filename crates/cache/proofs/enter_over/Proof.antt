@@ -1,47 +1,43 @@
 -- `cache::enter_over` meets its contract. Assumes nothing.
 use borrow.Author.Needs.{needs}
-use mathlib.Core.Path.{_≡_, sym, ap, _∙_}
+use mathlib.Core.Path.{_≡_, refl, sym, ap, _∙_}
+use mathlib.Core.Bool.{true, false, _||_}
 use mathlib.Core.List.{List}
 use Prim.Native.Nat.{ℕ}
-use lib.Dec.{T}
+use lib.Dec.{eqb}
 use Rattle.meaning.specs.declared.Happening.{Happening}
-use Rattle.meaning.specs.Events.{known}
-use Rattle.meaning.specs.Rows.{Row, step, settle}
+use Rattle.meaning.specs.Rows.{Row, fits, settle}
 use Rattle.area.specs.State.{rowFor, withRow, stateOf, areaOf}
 use Rattle.rows.specs.Stored.{rowOf}
 use Rattle.rows.proofs.Padded.{stored⇒row}
 use Rattle.table.specs.Table.{rowsIn, Sound, foundFor}
 use Rattle.table.specs.declared.Found.the-variants.{At}
+use Rattle.calls.specs.declared.Answer.{Answer}
 use Rattle.calls.specs.declared.Answer.the-variants.{Recorded, Contradiction, Full, Forgotten}
-use Rattle.calls.specs.Calls.{stays, eventOf}
-use Rattle.calls.specs.Answers.{Gives}
-use Rattle.roles.proofs.Tests.{T-true}
-use Rattle.calls.proofs.CallLaws.{fitsIn-over, event-recorded}
-use Rattle.cache.proofs.Ladder.{gives, Entered, entered}
+use Rattle.calls.specs.Calls.{stays, eventIn}
+use Rattle.calls.specs.Answers.{numberOf, Gives}
+use Rattle.cache.proofs.Ladder.{gives, settled-over, settled-stays, settled-writes}
 use Rattle.cache.proofs.Writes.{row-inside, row-there, row-says, read-proper, known-64, answered, settled-row, settled-tidy}
 use Rattle.cache.proofs.enter_over.Statement.{statement}
 use Rattle.cache.proofs.enter_over.Tie as tie
 
 -- ---- the cases, by the answer of the step
 
-module _ (l : List ℕ) (s : Sound l) (p i : ℕ) (e : Happening) (f : foundFor p (rowsIn l) ≡ At i) (k : T (known (stateOf l .roles) e)) where
-  law : Entered l (stateOf l) p e (rowFor p (rowsIn l)) (settle e (rowFor p (rowsIn l)))
-  law = entered l (stateOf l) p e (rowFor p (rowsIn l)) (T-true (known (stateOf l .roles) e) k)
+module _ (l : List ℕ) (s : Sound l) (p i : ℕ) (e : Happening) (f : foundFor p (rowsIn l) ≡ At i) where
+  abbrev v : Row
+  v = rowFor p (rowsIn l)
 
-  against : settle e (rowFor p (rowsIn l)) .answer ≡ 6 → Gives (eventOf l p e) Contradiction l
-  against a = gives (eventOf l p e) Contradiction l (law .contradiction a)
+  -- 6 and 7
+  refuses : (r : Answer) → settle fits e v .answer ≡ numberOf r → (eqb (numberOf r) 0 || eqb (numberOf r) 8) ≡ false → Gives (eventIn l p e) r l
+  refuses r a n = gives (eventIn l p e) r l (settled-over l (stateOf l) p e v (row-says l s p i f) ∙ settled-stays l (stateOf l) p (settle fits e v) (numberOf r) a n)
 
-  too-many : settle e (rowFor p (rowsIn l)) .answer ≡ 7 → Gives (eventOf l p e) Full l
-  too-many a = gives (eventOf l p e) Full l (law .full a)
-
-  dropped : (w : Row) (m : List ℕ) → settle e (rowFor p (rowsIn l)) .answer ≡ 8 → w ≡ settle e (rowFor p (rowsIn l)) .row → m ≡ areaOf (withRow (stateOf l) p w) → Gives (eventOf l p e) Forgotten m
-  dropped w m a r q = gives (eventOf l p e) Forgotten m (law .forgets a ∙ ap (stays 8) (sym (q ∙ ap (λ (x : Row). areaOf (withRow (stateOf l) p x)) r)))
-
-  done : (w : Row) (m : List ℕ) → settle e (rowFor p (rowsIn l)) .answer ≡ 0 → w ≡ settle e (rowFor p (rowsIn l)) .row → m ≡ areaOf (withRow (stateOf l) p w) → Gives (eventOf l p e) Recorded m
-  done w m a r q =
-      gives (eventOf l p e) Recorded m
-      (event-recorded l (stateOf l) p e (rowFor p (rowsIn l)) (T-true (known (stateOf l .roles) e) k) (law .agrees a) (fitsIn-over (stateOf l) p (step e (rowFor p (rowsIn l))) (law .fitting a) (row-says l s p i f))
-      ∙ ap (stays 0) (sym (q ∙ ap (λ (x : Row). areaOf (withRow (stateOf l) p x)) (r ∙ law .row a))))
+  -- 0 and 8
+  puts : (r : Answer) → settle fits e v .answer ≡ numberOf r → (eqb (numberOf r) 0 || eqb (numberOf r) 8) ≡ true
+      → (w : Row) (m : List ℕ) → w ≡ settle fits e v .row → m ≡ areaOf (withRow (stateOf l) p w) → Gives (eventIn l p e) r m
+  puts r a n w m x q =
+      gives (eventIn l p e) r m
+      (settled-over l (stateOf l) p e v (row-says l s p i f) ∙ settled-writes l (stateOf l) p (settle fits e v) (numberOf r) a n
+      ∙ ap (stays (numberOf r)) (sym (q ∙ ap (λ (y : Row). areaOf (withRow (stateOf l) p y)) x)))
 
 -- ---- the needs
 
@@ -63,8 +59,8 @@ returns c =
     let s = r .before .before .before in
     let l = s .args .a .now in
     let ew = stored⇒row (r .row-at .result) _ (r .row-at .ensures) ∙ row-there l (s .pre .0) (s .args .p) (s .args .i) (s .pre .1) in
-    against l (s .pre .0) (s .args .p) (s .args .i) (s .args .e) (s .pre .1) (s .pre .2)
-    (answered (s .args .e) (rowOf (r .row-at .result)) (rowFor (s .args .p) (rowsIn l)) (t .settle .result) _ ew (t .settle .ensures) (c .enum-told .given .1))
+    refuses l (s .pre .0) (s .args .p) (s .args .i) (s .args .e) (s .pre .1) Contradiction
+    (answered (s .args .e) (rowOf (r .row-at .result)) (rowFor (s .args .p) (rowsIn l)) (t .settle .result) _ ew (t .settle .ensures) (c .enum-told .given .1)) refl
 
 returns-2 : tie.Need-returns-2
 returns-2 c =
@@ -73,8 +69,8 @@ returns-2 c =
     let s = r .before .before .before in
     let l = s .args .a .now in
     let ew = stored⇒row (r .row-at .result) _ (r .row-at .ensures) ∙ row-there l (s .pre .0) (s .args .p) (s .args .i) (s .pre .1) in
-    too-many l (s .pre .0) (s .args .p) (s .args .i) (s .args .e) (s .pre .1) (s .pre .2)
-    (answered (s .args .e) (rowOf (r .row-at .result)) (rowFor (s .args .p) (rowsIn l)) (t .settle .result) _ ew (t .settle .ensures) (c .enum-told2 .given .1))
+    refuses l (s .pre .0) (s .args .p) (s .args .i) (s .args .e) (s .pre .1) Full
+    (answered (s .args .e) (rowOf (r .row-at .result)) (rowFor (s .args .p) (rowsIn l)) (t .settle .result) _ ew (t .settle .ensures) (c .enum-told2 .given .1)) refl
 
 put-over-requires : tie.Need-put-over-requires
 put-over-requires c κs =
@@ -98,8 +94,8 @@ returns-3 c =
     let l = s .args .a .now in
     let v = rowFor (s .args .p) (rowsIn l) in
     let ew = stored⇒row (r .row-at .result) _ (r .row-at .ensures) ∙ row-there l (s .pre .0) (s .args .p) (s .args .i) (s .pre .1) in
-    dropped l (s .pre .0) (s .args .p) (s .args .i) (s .args .e) (s .pre .1) (s .pre .2) _ _
-    (answered (s .args .e) (rowOf (r .row-at .result)) v (t .settle .result) _ ew (t .settle .ensures) (told .enum-told3 .given .1))
+    puts l (s .pre .0) (s .args .p) (s .args .i) (s .args .e) (s .pre .1) Forgotten
+    (answered (s .args .e) (rowOf (r .row-at .result)) v (t .settle .result) _ ew (t .settle .ensures) (told .enum-told3 .given .1)) refl _ _
     (settled-row (s .args .e) (rowOf (r .row-at .result)) v (t .settle .result) ew (t .settle .ensures))
     (w .put-over .ensures)
 
@@ -113,8 +109,8 @@ returns-4 c =
     let l = s .args .a .now in
     let v = rowFor (s .args .p) (rowsIn l) in
     let ew = stored⇒row (r .row-at .result) _ (r .row-at .ensures) ∙ row-there l (s .pre .0) (s .args .p) (s .args .i) (s .pre .1) in
-    done l (s .pre .0) (s .args .p) (s .args .i) (s .args .e) (s .pre .1) (s .pre .2) _ _
-    (answered (s .args .e) (rowOf (r .row-at .result)) v (t .settle .result) _ ew (t .settle .ensures) (told .enum-told4 .given .1))
+    puts l (s .pre .0) (s .args .p) (s .args .i) (s .args .e) (s .pre .1) Recorded
+    (answered (s .args .e) (rowOf (r .row-at .result)) v (t .settle .result) _ ew (t .settle .ensures) (told .enum-told4 .given .1)) refl _ _
     (settled-row (s .args .e) (rowOf (r .row-at .result)) v (t .settle .result) ew (t .settle .ensures))
     (w .put-over2 .ensures)
 

@@ -8,7 +8,7 @@ use native.Mathlib.Omega.{arith}
 use lib.ListN.{length}
 use Rattle.words.specs.Words.{Bytes}
 use Rattle.meaning.specs.declared.Happening.{Happening}
-use Rattle.meaning.specs.Events.{known, isReply}
+use Rattle.meaning.specs.Events.{isReply}
 use Rattle.meaning.specs.Rows.{Row, blank, fits, contradicts, step}
 use Rattle.area.specs.Layout.{mostRows, areaBytes}
 use Rattle.area.specs.State.{isBlank, rowFor, withRow, wordsOf, stateOf, areaOf}
@@ -19,7 +19,7 @@ use Rattle.table.specs.Table.{rowsIn, Sound, foundFor}
 use Rattle.table.specs.declared.Found.the-variants.{Vacant}
 use Rattle.calls.specs.declared.Answer.{Answer}
 use Rattle.calls.specs.declared.Answer.the-variants.{Recorded}
-use Rattle.calls.specs.Calls.{Out, stays, eventOf}
+use Rattle.calls.specs.Calls.{Out, stays, eventIn}
 use Rattle.calls.specs.Answers.{numberOf, Gives}
 use Rattle.cache.specs.Fresh.{Fresh}
 use Rattle.roles.proofs.Tests.{T-true, T-false}
@@ -32,10 +32,7 @@ use Rattle.cache.proofs.put_new.Tie as tie
 
 -- ---- the cases
 
-module _ (l : List ℕ) (s : Sound l) (p i : ℕ) (e : Happening) (w : value.Row) (f : foundFor p (rowsIn l) ≡ Vacant i) (h : Fresh (stateOf l .roles) e w) where
-  knows : known (stateOf l .roles) e ≡ true
-  knows = T-true (known (stateOf l .roles) e) (h .is-known)
-
+module _ (l : List ℕ) (s : Sound l) (p i : ℕ) (e : Happening) (w : value.Row) (f : foundFor p (rowsIn l) ≡ Vacant i) (h : Fresh e w) where
   clear : contradicts e blank ≡ false
   clear = T-false (contradicts e blank) (h .agrees)
 
@@ -48,30 +45,30 @@ module _ (l : List ℕ) (s : Sound l) (p i : ℕ) (e : Happening) (w : value.Row
   empty : isBlank (rowFor p (rowsIn l)) ≡ true
   empty = ap isBlank (row-none l s p i f)
 
-  nothing : Bytes l → isBlank (rowOf w) ≡ true → Gives (eventOf l p e) Recorded l
+  nothing : Bytes l → isBlank (rowOf w) ≡ true → Gives (eventIn l p e) Recorded l
   nothing bytes b =
       let q = sym (ap isBlank same) ∙ b in
-      gives (eventOf l p e) Recorded l
-      (event-none l s p i f e ∙ event-recorded l (stateOf l) p e blank knows clear (fitsIn-blank (stateOf l) p (step e blank) room q) ∙ ap (stays 0) (area-kept l s p i f (step e blank) q bytes))
+      gives (eventIn l p e) Recorded l
+      (event-none l s p i f e ∙ event-recorded l (stateOf l) p e blank clear (fitsIn-blank (stateOf l) p (step e blank) room q) ∙ ap (stays 0) (area-kept l s p i f (step e blank) q bytes))
 
   either : (b : Bool) → cond b (stays 7 l) (stays 8 l) ≡ stays (cond b 7 8) l
   either true = refl
   either false = refl
 
-  no-more : Bytes l → isBlank (rowOf w) ≡ false → mostRows ≤ length (rowsIn l) → (r : Answer) → numberOf r ≡ cond (isReply e) 7 8 → Gives (eventOf l p e) r l
+  no-more : Bytes l → isBlank (rowOf w) ≡ false → mostRows ≤ length (rowsIn l) → (r : Answer) → numberOf r ≡ cond (isReply e) 7 8 → Gives (eventIn l p e) r l
   no-more bytes b m r q =
-      gives (eventOf l p e) r l
+      gives (eventIn l p e) r l
       (event-none l s p i f e
-      ∙ event-unfit l (stateOf l) p e blank knows clear (fitsIn-none (stateOf l) p (step e blank) room empty (sym (ap isBlank same) ∙ b) m)
+      ∙ event-unfit l (stateOf l) p e blank clear (fitsIn-none (stateOf l) p (step e blank) room empty (sym (ap isBlank same) ∙ b) m)
       ∙ ap (λ (o : Out). cond (isReply e) (stays 7 l) o) (ap (stays 8) (area-kept l s p i f blank refl bytes))
       ∙ either (isReply e)
       ∙ ap (λ (a : ℕ). stays a l) (sym q))
 
-  made : (m : List ℕ) → length (rowsIn l) < mostRows → m ≡ areaOf (withRow (stateOf l) p (rowOf w)) → Gives (eventOf l p e) Recorded m
+  made : (m : List ℕ) → length (rowsIn l) < mostRows → m ≡ areaOf (withRow (stateOf l) p (rowOf w)) → Gives (eventIn l p e) Recorded m
   made m u q =
-      gives (eventOf l p e) Recorded m
+      gives (eventIn l p e) Recorded m
       (event-none l s p i f e
-      ∙ event-recorded l (stateOf l) p e blank knows clear (fitsIn-room (stateOf l) p (step e blank) room u)
+      ∙ event-recorded l (stateOf l) p e blank clear (fitsIn-room (stateOf l) p (step e blank) room u)
       ∙ ap (stays 0) (sym (q ∙ ap (λ (x : Row). areaOf (withRow (stateOf l) p x)) same)))
 
 -- ---- the needs
