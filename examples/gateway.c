@@ -294,6 +294,7 @@ static void overtake(struct gateway *gateway, struct office *office)
         printf("    sent: ");
         print_event(&sent[k]);
         printf("\n");
+        receive(gateway, sent[k]);
     }
     link_goes_down(gateway);
 
@@ -312,8 +313,6 @@ static void overtake(struct gateway *gateway, struct office *office)
         printf("    WRONG: nobody holds it\n");
 
     printf("-- this gateway has one queue\n");
-    for (size_t k = 0; k < COUNT; k++)
-        receive(gateway, sent[k]);
     request(gateway, office, ONLY(FITTER), SCRAPER);
 }
 

@@ -229,6 +229,7 @@ readings = record {
   common-role-asks = asks _ (2 ∷ []) _ tt tt refl;
   forgotten = answered _ _ tt refl;
   as-sent = answered _ _ tt refl;
+  as-sent-asks = asks _ (3 ∷ []) _ tt tt refl;
   overtaken = answered _ _ tt refl;
   worked-row = kept _ _ tt refl refl;
   worked-answers = answered _ _ tt refl;

@@ -75,8 +75,9 @@ pub record Readings : Type 0 where
   pub common-role : Answered (allow (1 ∷ 2 ∷ []) ∷ allow (2 ∷ 3 ∷ []) ∷ decide (2 ∷ []) ∷ []) (0 ∷ 0 ∷ 12 ∷ [])
   pub common-role-asks : Asks (allow (1 ∷ 2 ∷ []) ∷ allow (2 ∷ 3 ∷ []) ∷ []) (2 ∷ []) 2
   pub forgotten : Answered (deny (1 ∷ []) ∷ forget 5 ∷ decide (1 ∷ []) ∷ []) (0 ∷ 0 ∷ 12 ∷ [])
-  -- a reply that was sent after a withdrawal, taken in that order and before it
+  -- a reply that was sent after a withdrawal: taken in that order, and before it
   pub as-sent : Answered (allow (2 ∷ 3 ∷ []) ∷ withdraw 2 ∷ deny (2 ∷ []) ∷ decide (3 ∷ []) ∷ []) (0 ∷ 0 ∷ 0 ∷ 12 ∷ [])
+  pub as-sent-asks : Asks (allow (2 ∷ 3 ∷ []) ∷ withdraw 2 ∷ deny (2 ∷ []) ∷ []) (3 ∷ []) 3
   pub overtaken : Answered (allow (2 ∷ 3 ∷ []) ∷ deny (2 ∷ []) ∷ withdraw 2 ∷ decide (3 ∷ []) ∷ []) (0 ∷ 0 ∷ 0 ∷ 11 ∷ [])
   pub worked-row : Kept worked (row (1 ∷ 2 ∷ 4 ∷ 7 ∷ []) ((3 ∷ []) ∷ (5 ∷ 6 ∷ []) ∷ []))
   pub worked-answers : Answered (worked ++ decide (3 ∷ 4 ∷ []) ∷ decide (1 ∷ 4 ∷ 7 ∷ []) ∷ decide (1 ∷ 5 ∷ []) ∷ []) (0 ∷ 0 ∷ 0 ∷ 0 ∷ 11 ∷ 10 ∷ 12 ∷ [])
