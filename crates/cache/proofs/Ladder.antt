@@ -11,9 +11,9 @@ use Rattle.meaning.specs.Rows.{Row, blank, fits, contradicts, step, Settled, un
 use Rattle.meaning.proofs.Answers.{Case, refused, taken, no-room, dropped, case, settle-by}
 use Rattle.area.specs.State.{State, isBlank, rowFor, withRow}
 use Rattle.calls.specs.declared.Answer.{Answer}
-use Rattle.calls.specs.Calls.{Out, stays, writes, fitsIn, settledIn, eventOn}
+use Rattle.calls.specs.Calls.{Out, stays, writes, fitsIn, settledIn}
 use Rattle.calls.specs.Answers.{numberOf, Gives}
-use Rattle.calls.proofs.CallLaws.{fitsIn-row, unfit}
+use Rattle.calls.proofs.CallLaws.{fitsIn-row, unfit, eventOn}
 
 pub gives : (o : Out) (r : Answer) (l : List ℕ) → o ≡ stays (numberOf r) l → Gives o r l
 gives o r l e = record { answer = sym (ap (λ (x : Out). x .answer) e); area = sym (ap (λ (x : Out). x .area) e) }

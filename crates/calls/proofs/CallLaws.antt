@@ -23,7 +23,7 @@ use Rattle.meaning.proofs.Theorems.{ask-some, ask-none, ask-most}
 use Rattle.area.specs.Layout.{mostRows, areaBytes, goodBytes}
 use Rattle.area.specs.State.{State, opened, isBlank, rowFor, withRow, stateOf}
 use Rattle.area.proofs.Bytes.{good-state}
-use Rattle.calls.specs.Calls.{stays, writes, valid, fitsIn, areaRefusals, lastKind, happened, settledIn, eventOn, eventIn, eventOf, openOf, decideOf, forgetOf}
+use Rattle.calls.specs.Calls.{Out, stays, writes, valid, fitsIn, areaRefusals, lastKind, happened, settledIn, eventIn, eventOf, openOf, decideOf, forgetOf}
 
 pub valid-law : (p : ℕ) → T (valid p) ↔ ((1 ≤ p) × (p ≤ lastPermission))
 valid-law p = (
@@ -102,6 +102,14 @@ module _ (s : State) (p : ℕ) (v : Row) (f : fits v ≡ true) where
       ∙ ap (λ (b : Bool). not b || isBlank v) h ∙ k
 
 -- ---- an event of known roles on a good area
+
+-- on an area l that holds s, where w is the row of p
+unfoldable pub eventOn : List ℕ → State → ℕ → Happening → Row → Out
+eventOn l s p e w = settledIn l s p (settle (fitsIn s p) e w)
+
+pub event-in : (l : List ℕ) (p : ℕ) (e : Happening) → eventIn l p e ≡ eventOn l (stateOf l) p e (rowFor p (stateOf l .rows))
+unfolding eventIn eventOn
+event-in l p e = refl
 
 module _ (l : List ℕ) (s : State) (p : ℕ) (e : Happening) (w : Row) where
   pub event-contradicts : contradicts e w ≡ true → eventOn l s p e w ≡ stays 6 l

@@ -15,7 +15,7 @@ use Rattle.area.proofs.RowLaws.{Hit, hit-law, put-not, rowFor-put-same}
 use Rattle.area.proofs.Bytes.{area-state, good-state, good-area}
 use Rattle.calls.specs.Calls.{Out, stays, writes, valid, fitsIn, lastKind, happened, eventIn, eventOf, forgetOf}
 use Rattle.calls.specs.Demands as demands
-use Rattle.calls.proofs.CallLaws.{event-contradicts, event-unfit, event-recorded, event-bad-area, event-no-permission, event-bad-kind, event-unknown, event-known, forget-bad-area, forget-no-permission, forget-forgets}
+use Rattle.calls.proofs.CallLaws.{event-in, event-contradicts, event-unfit, event-recorded, event-bad-area, event-no-permission, event-bad-kind, event-unknown, event-known, forget-bad-area, forget-no-permission, forget-forgets}
 use Rattle.calls.proofs.Outcomes.{drop-state}
 
 module _ (l : List ℕ) (p : ℕ) where
@@ -71,9 +71,9 @@ module _ (l : List ℕ) (p : ℕ) where
         unfit false h v q = record { good = h; ok = v; is = refl }
 
         on-row : goodBytes l ≡ true → valid p ≡ true → eventOf l p k x ≡ eventIn l p e → (c : Bool) → contradicts e w ≡ c → (f : Bool) → fitsIn s p (step e w) ≡ f → Goal (eventOf l p k x)
-        on-row h v q true c f i = by (stays 6 l) (q ∙ event-contradicts l s p e w c) (unlike tt)
-        on-row h v q false c true i = by (writes 0 (withRow s p (step e w))) (q ∙ event-recorded l s p e w c i) (unlike tt)
-        on-row h v q false c false i = by (cond (isReply e) (stays 7 l) (writes 8 (withRow s p blank))) (q ∙ event-unfit l s p e w c i) (unfit (isReply e) h v)
+        on-row h v q true c f i = by (stays 6 l) (q ∙ event-in l p e ∙ event-contradicts l s p e w c) (unlike tt)
+        on-row h v q false c true i = by (writes 0 (withRow s p (step e w))) (q ∙ event-in l p e ∙ event-recorded l s p e w c i) (unlike tt)
+        on-row h v q false c false i = by (cond (isReply e) (stays 7 l) (writes 8 (withRow s p blank))) (q ∙ event-in l p e ∙ event-unfit l s p e w c i) (unfit (isReply e) h v)
 
         go : (a : Bool) → goodBytes l ≡ a → (b : Bool) → valid p ≡ b → (c : Bool) → leb k lastKind ≡ c → (d : Bool) → known (s .roles) e ≡ d → Goal (eventOf l p k x)
         go false h b v c u d n = by (stays 1 l) (event-bad-area l p k x h) (unlike tt)

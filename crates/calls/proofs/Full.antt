@@ -19,10 +19,10 @@ use Rattle.meaning.proofs.Theorems.{step-leaves, contradicts-law, step-good, ro
 use Rattle.area.specs.Layout.{mostRows}
 use Rattle.area.specs.State.{State, Entry, GoodState, isBlank, rowFor, put, withRow, areaOf}
 use Rattle.area.proofs.RowLaws.{hit-law, hit?, rowFor-good, rowFor-few, rowFor-put-same, rowFor-put-other, put-good, length-put-new, rows-ext}
-use Rattle.calls.specs.Calls.{Out, stays, writes, valid, fitsIn, lastKind, happened, eventOn, eventOf}
+use Rattle.calls.specs.Calls.{Out, stays, writes, valid, fitsIn, lastKind, happened, eventOf}
 use Rattle.calls.specs.Histories.{History}
 use Rattle.calls.specs.Demands as demands
-use Rattle.calls.proofs.CallLaws.{valid-law, fitsIn-over, fitsIn-blank, fitsIn-room, event-contradicts, event-unfit, event-recorded, reply-kind}
+use Rattle.calls.proofs.CallLaws.{valid-law, fitsIn-over, fitsIn-blank, fitsIn-room, eventOn, event-contradicts, event-unfit, event-recorded, reply-kind}
 use Rattle.calls.proofs.Outcomes.{put-state, event-is}
 use Rattle.calls.proofs.Invariant.{Holds, trailOn-recorded, trailOn-other, begun-holds}
 

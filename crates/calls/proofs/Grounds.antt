@@ -20,7 +20,7 @@ use Rattle.meaning.proofs.Answers.{fits-law}
 use Rattle.meaning.proofs.Theorems.{one-of-three}
 use Rattle.area.specs.Layout.{mostRows, areaBytes, goodBytes}
 use Rattle.area.specs.State.{State, opened, isBlank, rowFor, withRow, stateOf}
-use Rattle.calls.specs.Calls.{Out, stays, writes, valid, fitsIn, openRefusals, areaRefusals, lastKind, happened, eventRefusals, settledIn, eventOn, eventOf, openOf, decideOf, forgetOf}
+use Rattle.calls.specs.Calls.{Out, stays, writes, valid, fitsIn, openRefusals, areaRefusals, lastKind, happened, eventRefusals, settledIn, eventIn, eventOf, openOf, decideOf, forgetOf}
 use Rattle.calls.specs.Histories.{outOf}
 use Rattle.calls.specs.Demands.{OnGrounds, IsRecorded, areaGrounds, Unknown, NoPlace, noRoom, eventGrounds, Demand1}
 use Rattle.calls.proofs.CallLaws.{valid-law, fitsIn-law, fitsIn-over, fitsIn-blank, fitsIn-room, reply-kind, roles-kind}
@@ -135,7 +135,7 @@ module _ (l : List ℕ) (p k x : ℕ) where
   own-grounds = ground 5 (3 < k) ∷ ground 4 (Unknown (s .roles) k x) ∷ ground 6 (T (contradicts e w)) ∷ ground (noRoom k) (NoPlace s p (step e w)) ∷ []
 
   one-list : eventOf l p k x ≡ refuse (areaRefusals l p own) left (writes 0 (withRow s p (step e w)))
-  unfolding eventOf eventOn settle overflow left
+  unfolding eventOf eventIn settle overflow left
   one-list = ap (λ (o : Out). refuse (eventRefusals l p k e) (λ a. stays a l) o) (go (contradicts e w) (fitsIn s p (step e w)) (isReply e))
     where
       go : (c f r : Bool) → settledIn l s p (cond c (unchanged 6 w) (cond f (record { answer = 0; row = step e w }) (cond r (unchanged 7 w) forgotten)))

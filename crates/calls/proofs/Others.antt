@@ -20,10 +20,10 @@ use Rattle.area.specs.Layout.{mostRows, areaBytes}
 use Rattle.area.specs.State.{State, GoodState, isBlank, rowFor, withRow, stateOf, areaOf}
 use Rattle.area.proofs.RowLaws.{isBlank-law}
 use Rattle.area.proofs.Bytes.{length-area, area-state}
-use Rattle.calls.specs.Calls.{Out, stays, writes, valid, fitsIn, lastKind, happened, eventOn, eventOf, openOf, forgetOf}
+use Rattle.calls.specs.Calls.{Out, stays, writes, valid, fitsIn, lastKind, happened, eventOf, openOf, forgetOf}
 use Rattle.calls.specs.Histories.{Call, opening, event, ask, forget, outOf, trailOn, trailAfter, History, next}
 use Rattle.calls.specs.Demands as demands
-use Rattle.calls.proofs.CallLaws.{open-bad-count, open-recorded, fitsIn-law, event-contradicts, event-unfit, event-recorded, event-no-permission, event-bad-kind, event-unknown, reply-kind, forget-no-permission, forget-forgets}
+use Rattle.calls.proofs.CallLaws.{open-bad-count, open-recorded, fitsIn-law, eventOn, event-contradicts, event-unfit, event-recorded, event-no-permission, event-bad-kind, event-unknown, reply-kind, forget-no-permission, forget-forgets}
 use Rattle.calls.proofs.Outcomes.{area-is-good, event-is}
 use Rattle.calls.proofs.Invariant.{Holds, next-holds, begun-holds}
 use Rattle.calls.proofs.Decisions.{other-stays, no-other}

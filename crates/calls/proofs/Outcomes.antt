@@ -17,8 +17,8 @@ use Rattle.area.specs.Layout.{goodBytes}
 use Rattle.area.specs.State.{State, GoodState, rowFor, withRow, stateOf, areaOf}
 use Rattle.area.proofs.RowLaws.{rowFor-good, put-good, put-most}
 use Rattle.area.proofs.Bytes.{area-good, area-state}
-use Rattle.calls.specs.Calls.{Out, stays, writes, valid, fitsIn, lastKind, happened, eventOn, eventOf, decideOf, forgetOf}
-use Rattle.calls.proofs.CallLaws.{valid-law, fitsIn-law, event-contradicts, event-unfit, event-recorded, event-no-permission, event-bad-kind, event-unknown, event-known, decide-decides, forget-no-permission, forget-forgets}
+use Rattle.calls.specs.Calls.{Out, stays, writes, valid, fitsIn, lastKind, happened, eventOf, decideOf, forgetOf}
+use Rattle.calls.proofs.CallLaws.{valid-law, fitsIn-law, eventOn, event-in, event-contradicts, event-unfit, event-recorded, event-no-permission, event-bad-kind, event-unknown, event-known, decide-decides, forget-no-permission, forget-forgets}
 
 -- ---- states with another row
 
@@ -85,6 +85,7 @@ module _ (s : State) (g : GoodState s) (p : ℕ) where
   pub event-is : (k x : ℕ) → T (valid p) → T (leb k lastKind) → T (known (s .roles) (happened k x)) → eventOf (areaOf s) p k x ≡ eventOn (areaOf s) s p (happened k x) (rowFor p (s .rows))
   event-is k x v b kn =
       event-known (areaOf s) p k x (area-is-good s g) (T-true (valid p) v) (T-true (leb k lastKind) b) (known-in ∙ T-true (known (s .roles) (happened k x)) kn)
+      ∙ event-in (areaOf s) p (happened k x)
       ∙ ap (λ (u : State). eventOn (areaOf s) u p (happened k x) (rowFor p (u .rows))) (area-state s g)
     where
       known-in : known (stateOf (areaOf s) .roles) (happened k x) ≡ known (s .roles) (happened k x)

@@ -24,10 +24,10 @@ use Rattle.area.specs.State as states
 use Rattle.area.specs.State.{State, Entry, opened, withRows, GoodState, isBlank, rowFor, withRow, stateOf, areaOf}
 use Rattle.area.proofs.Bytes.{area-state}
 use Rattle.area.proofs.RowLaws.{isBlank-law, Hit, hit-law, put-not, rowFor-put-same}
-use Rattle.calls.specs.Calls.{Out, stays, writes, valid, fitsIn, lastKind, happened, settledIn, eventOn, eventOf, openOf, decideOf}
+use Rattle.calls.specs.Calls.{Out, stays, writes, valid, fitsIn, lastKind, happened, settledIn, eventOf, openOf, decideOf}
 use Rattle.calls.specs.Histories.{Call, opening, event, ask, forget, outOf, History, afterOpening, next, afterAll, history}
 use Rattle.calls.specs.Readings.{answers, Answered, Kept, Asks, Readings}
-use Rattle.calls.proofs.CallLaws.{open-law, fitsIn-blank, fitsIn-room, event-contradicts, event-recorded, forget-forgets}
+use Rattle.calls.proofs.CallLaws.{open-law, fitsIn-blank, fitsIn-room, eventOn, event-contradicts, event-recorded, forget-forgets}
 use Rattle.calls.proofs.Outcomes.{put-state, area-is-good, event-is, decide-on}
 
 -- ---- a permission without a row, on any good area

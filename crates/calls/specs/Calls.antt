@@ -7,7 +7,7 @@
 --     lastKind, happened k x        kinds are 0 to this one; what happened, as kind and number say it
 --     eventRefusals         the refusals of an event before its row is looked at
 --     settledIn l s p t     t is the answer to an event on the row of p: 0 and 8 put the row in its place, 6 and 7 leave every byte
---     eventOn, eventIn      an event of known roles on a good area
+--     eventIn l p e         an event of known roles on a good area
 --     openOf, eventOf, forgetOf    the calls, refusals in the order 1, 2, 3, 5, 4, 6, then 7 or 8
 --     decideOf              decide, refusals in the order 1, 3, 4: an answer and a role, 64 with each refusal; the bytes are only read
 use mathlib.Core.Bool.{Bool, not, cond, _&&_, _||_}
@@ -74,12 +74,8 @@ eventRefusals l p k e = areaRefusals l p (refusal 5 (not (leb k lastKind)) ∷ r
 abbrev pub settledIn : List ℕ → State → ℕ → Settled → Out
 settledIn l s p t = cond (eqb (t .answer) 0 || eqb (t .answer) 8) (writes (t .answer) (withRow s p (t .row))) (stays (t .answer) l)
 
--- where w is the row of p before the event
-unfoldable pub eventOn : List ℕ → State → ℕ → Happening → Row → Out
-eventOn l s p e w = settledIn l s p (settle (fitsIn s p) e w)
-
-abbrev pub eventIn : List ℕ → ℕ → Happening → Out
-eventIn l p e = eventOn l (stateOf l) p e (rowFor p (stateOf l .rows))
+unfoldable pub eventIn : List ℕ → ℕ → Happening → Out
+eventIn l p e = let s : State = stateOf l in settledIn l s p (settle (fitsIn s p) e (rowFor p (s .rows)))
 
 unfoldable pub eventOf : List ℕ → ℕ → ℕ → ℕ → Out
 eventOf l p k x = refuse (eventRefusals l p k (happened k x)) (λ a. stays a l) (eventIn l p (happened k x))

@@ -21,9 +21,9 @@ use Rattle.meaning.proofs.Theorems.{settle-law, step-good}
 use Rattle.area.specs.Layout.{mostRows}
 use Rattle.area.specs.State.{Entry, State, opened, withRows, isBlank, GoodRow, GoodState, areaOf, rowFor, put, withRow}
 use Rattle.area.proofs.RowLaws.{isBlank-law, rowFor-put-same, put-again, put-not, hit-law, rows-first, next-good, next-absent, put-next}
-use Rattle.calls.specs.Calls.{Out, writes, valid, fitsIn, happened, eventOn}
+use Rattle.calls.specs.Calls.{Out, writes, valid, fitsIn, happened}
 use Rattle.calls.specs.Histories.{outOf, callFor, callOf}
-use Rattle.calls.proofs.CallLaws.{valid-law, fitsIn-over, fitsIn-room, event-recorded}
+use Rattle.calls.proofs.CallLaws.{valid-law, fitsIn-over, fitsIn-room, eventOn, event-recorded}
 use Rattle.calls.proofs.Outcomes.{put-state, event-is}
 use Rattle.print.specs.Printed.{repliesOf}
 use Rattle.carry.proofs.RowTold.{told-again}
