@@ -34,7 +34,7 @@ static void print_role(uint64_t role)
 static void print_session(uint64_t session)
 {
     const char *between = "";
-    for (unsigned role = 0; role < ROLES; role++) {
+    for (unsigned role = 0; role < WICKTHRUSH_MOST_ROLES; role++) {
         if ((session & ONLY(role)) == 0)
             continue;
         printf("%s", between);
@@ -47,7 +47,7 @@ static void print_session(uint64_t session)
 
 struct event {
     uint32_t permission;
-    enum wickthrush_kind kind;
+    uint64_t kind;   /* one of enum wickthrush_kind, as wide as the call takes it: no bit of a wrong one gets lost */
     uint64_t number; /* of a reply the role set of the session, of an update the role */
 };
 
@@ -59,16 +59,24 @@ static bool is_reply(const struct event *event)
 static void print_event(const struct event *event)
 {
     switch (event->kind) {
-    case WICKTHRUSH_REPLY_DENY: printf("denied to "); break;
-    case WICKTHRUSH_REPLY_ALLOW: printf("allowed to "); break;
-    case WICKTHRUSH_WITHDRAWN: printf("withdrawn from "); break;
-    case WICKTHRUSH_GIVEN: printf("given to "); break;
-    default: printf("of an unknown kind, "); break;
-    }
-    if (is_reply(event))
+    case WICKTHRUSH_REPLY_DENY:
+        printf("denied to ");
         print_session(event->number);
-    else
+        break;
+    case WICKTHRUSH_REPLY_ALLOW:
+        printf("allowed to ");
+        print_session(event->number);
+        break;
+    case WICKTHRUSH_WITHDRAWN:
+        printf("withdrawn from ");
         print_role(event->number);
+        break;
+    case WICKTHRUSH_GIVEN:
+        printf("given to ");
+        print_role(event->number);
+        break;
+    default: printf("of an unknown kind"); break;
+    }
 }
 
 /* All kinds in one, oldest first. With a queue for replies and one for updates an event can overtake another. */
@@ -371,6 +379,17 @@ int main(void)
     link_goes_down(&gateway);
     request(&gateway, &office, ONLY(OPERATOR), METER);
     link_comes_up(&gateway, &office);
+    request(&gateway, &office, ONLY(OPERATOR), METER);
+
+    /* What the gateway was not built for: no old right may outlive an update that it cannot take. */
+    change(&gateway, &office, (struct event){METER, WICKTHRUSH_WITHDRAWN, ROLES});
+    printf("the head office sends a kind of event that is new\n");
+    receive(&gateway, (struct event){VALVE, (UINT64_C(1) << 32) + WICKTHRUSH_REPLY_ALLOW, ONLY(FITTER)});
+    hear_queue(&gateway);
+    printf("nine events come in before the first is heard\n");
+    for (unsigned k = 0; k < 9; k++)
+        receive(&gateway, office_replies(&office, METER, ONLY(k)));
+    hear_queue(&gateway);
     request(&gateway, &office, ONLY(OPERATOR), METER);
 
     link_goes_down(&gateway);

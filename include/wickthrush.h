@@ -121,13 +121,13 @@ WICKTHRUSH_MUST_USE uint32_t wickthrush_open(uint8_t *area, size_t len, uint64_t
  * taken as true at the moment of the call.
  *
  * kind says what happened. For a reply number is the role set of the session: its bit of weight 2^r for role r. For an
- * update it is one role, as itself: role 5 is 5. Both are whole 64-bit numbers; no bit of them is left out of account.
+ * update it is one role, as itself: role 5 is 5. Both are whole 64-bit numbers; nothing of them is cut off.
  *
  * WICKTHRUSH_RECORDED       the area has the event and what was known before, as far as it still holds
  * WICKTHRUSH_BAD_AREA       len is wrong or the bytes are no area; area unchanged
  * WICKTHRUSH_NO_PERMISSION  permission is 0; area unchanged
  * WICKTHRUSH_BAD_VERDICT    kind is none of the four; area unchanged
- * WICKTHRUSH_UNKNOWN_ROLE   the set has a role at or above the role count, or the role is; area unchanged
+ * WICKTHRUSH_UNKNOWN_ROLE   a role of the set, or that of an update, is at or above the role count; area unchanged
  * WICKTHRUSH_CONTRADICTION  a reply that no assignment that was possible agrees with; area unchanged
  * WICKTHRUSH_FULL           a reply, and the permission's new row has no room; area unchanged
  * WICKTHRUSH_FORGOTTEN      an update, and the permission's new row has no room: nothing is known of this permission

@@ -25,7 +25,7 @@ ghost use Rattle.answers.specs.Show.{OnlyAnswer};
 // No answer and no row is longer.
 pub const MOST_TEXT: usize = 4096;
 
-// An event comes in by the call that it belongs to.
+// A line's event comes in by the call that C has too, as kind and number.
 fn tell(area: &mut [u8], e: Event) -> Answer
     ensures { λ r. ⌜ Gives (outOf (callOf e) (now (area .entry))) r (now (area .exit)) ⌝ }
 {

@@ -1,14 +1,13 @@
 -- The answer to an event on a good area, by what the row's step comes to. Assumes nothing.
 use mathlib.Core.Path.{_≡_, refl, sym, ap}
-use mathlib.Core.Bool.{Bool, true, false, not, cond, _||_}
+use mathlib.Core.Bool.{Bool, true, false, cond, _||_}
 use mathlib.Core.List.{List}
 use mathlib.Core.Logic.{_≢_}
 use Prim.Native.Nat.{ℕ}
-use lib.Dec.{T, eqb}
-use Rattle.roles.proofs.Tests.{unlike}
+use lib.Dec.{eqb}
 use Rattle.meaning.specs.declared.Happening.{Happening}
-use Rattle.meaning.specs.Rows.{Row, blank, fits, contradicts, step, Settled, unchanged, overflow, settle}
-use Rattle.meaning.proofs.Answers.{Case, refused, taken, no-room, dropped, case, settle-by}
+use Rattle.meaning.specs.Rows.{Row, fits, contradicts, step, Settled, unchanged, overflow, settle}
+use Rattle.meaning.proofs.Answers.{settle-by}
 use Rattle.area.specs.State.{State, isBlank, rowFor, withRow}
 use Rattle.calls.specs.declared.Answer.{Answer}
 use Rattle.calls.specs.Calls.{Out, stays, writes, fitsIn, settledIn}
@@ -43,28 +42,3 @@ module _ (l : List ℕ) (s : State) (p : ℕ) (t : Settled) where
 
   pub settled-writes : (a : ℕ) → t .answer ≡ a → (eqb a 0 || eqb a 8) ≡ true → settledIn l s p t ≡ writes a (withRow s p (t .row))
   settled-writes a q n = rw q (rw n)
-
--- ---- what is recorded agrees and fits
-
-pub record Taken (e : Happening) (w : Row) (t : Settled) : Type 0 where
-  pub agrees : T (not (contradicts e w))
-  pub room : T (fits (step e w))
-  pub row : t .row ≡ step e w
-
-pub recorded⇒taken : (e : Happening) (w : Row) → settle fits e w .answer ≡ 0 → Taken e w (settle fits e w)
-recorded⇒taken e w = go (settle fits e w) (case fits e w)
-  where
-    go : (t : Settled) → Case fits e w t → t .answer ≡ 0 → Taken e w t
-    go t (refused c) = unlike tt
-    go t (taken c f) = λ q. record { agrees = c; room = f; row = refl }
-    go t (no-room r c f) = unlike tt
-    go t (dropped r f) = unlike tt
-
-pub forgotten⇒blank : (e : Happening) (w : Row) → settle fits e w .answer ≡ 8 → settle fits e w .row ≡ blank
-forgotten⇒blank e w = go (settle fits e w) (case fits e w)
-  where
-    go : (t : Settled) → Case fits e w t → t .answer ≡ 8 → t .row ≡ blank
-    go t (refused c) = unlike tt
-    go t (taken c f) = unlike tt
-    go t (no-room r c f) = unlike tt
-    go t (dropped r f) = λ q. refl

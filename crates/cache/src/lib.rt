@@ -195,7 +195,7 @@ fn enter_new(a: &mut [u8], i: usize, p: u32, e: Happening) -> Answer
     }
 }
 
-// The one way of every event.
+// An event of known roles: over its permission's row, or as its first one.
 fn enter(a: &mut [u8], event: Event) -> Answer
     requires { ⌜ Sound (now a) × T (known (stateOf (now a) .roles) (event .happening)) ⌝ }
     ensures { λ r. ⌜ Gives (eventIn (now (a .entry)) (event .permission) (event .happening)) r (now (a .exit)) ⌝ }
@@ -208,7 +208,7 @@ fn enter(a: &mut [u8], event: Event) -> Answer
     }
 }
 
-// What happened, as kind and number say it.
+// What happened, as kind and number say it; a kind above LAST_KIND is refused before.
 fn happened(kind: u64, number: u64) -> Happening
     ensures { λ e. ⌜ e ≡ happened kind number ⌝ }
 {

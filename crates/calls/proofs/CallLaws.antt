@@ -154,6 +154,7 @@ module _ (l : List ℕ) (p k x : ℕ) where
         unfolding eventOf
         event-known n = rw (h, v, u, n)
 
+-- from 3 on, of which the call takes 3 alone
 pub given-kind : (k x : ℕ) → (k ≡ 0 → ⊥) → (k ≡ 1 → ⊥) → (k ≡ 2 → ⊥) → happened k x ≡ Given x
 unfolding happened
 given-kind k x a b c = rw (ne-eqb k 0 a, ne-eqb k 1 b, ne-eqb k 2 c)

@@ -6,7 +6,8 @@ use mathlib.Core.Path.{_≡_, refl, sym, ap, _∙_}
 use mathlib.Core.Bool.{Bool, true, false, cond}
 use mathlib.Core.List.{List, [], _∷_, _++_, append-assoc, append-nil}
 use mathlib.Core.Logic.{_↔_}
-use Prim.Native.Nat.{ℕ}
+use Prim.Native.Nat.{ℕ, _≤_}
+use native.Mathlib.Omega.{arith}
 use borrow.Author.Tests.{eq-eqb}
 use lib.Dec.{eqb}
 use Rattle.meaning.specs.declared.Event.{Event}
@@ -15,7 +16,7 @@ use Rattle.meaning.specs.declared.Happening.the-variants.{Allow, Deny, Given, W
 use Rattle.meaning.specs.Events.{Reply, after, Becomes, Possible}
 use Rattle.meaning.proofs.Trails.{becomes-swap}
 use Rattle.calls.specs.Calls.{happened}
-use Rattle.calls.specs.Histories.{Call, outOf, trailOn, trailAfter, rolesAfter, History, next, Begun, going, afterAll, callFor, callOf, calls, AllRecorded}
+use Rattle.calls.specs.Histories.{Call, event, outOf, trailOn, trailAfter, rolesAfter, History, next, Begun, going, afterAll, callFor, callOf, calls, AllRecorded}
 use Rattle.calls.specs.Demands as demands
 
 unfoldable pub eventsOf : ℕ → List Event → List Happening
@@ -72,12 +73,20 @@ unfolding afterAll
 all-begun [] g = g
 all-begun (c ∷ cs) g = all-begun cs (going c g)
 
+comes-in : (p : ℕ) (e : Happening) → (k : ℕ) × (x : ℕ) × (k ≤ 3) × (callFor p e ≡ event p k x) × (happened k x ≡ e)
+unfolding callFor happened
+comes-in p (Deny s) = (0, s .bits, omega arith, refl, refl)
+comes-in p (Allow s) = (1, s .bits, omega arith, refl, refl)
+comes-in p (Withdrawn r) = (2, r, omega arith, refl, refl)
+comes-in p (Given r) = (3, r, omega arith, refl, refl)
+
 pub kinds : demands.Kinds
 unfolding happened
 kinds = record {
   replies = λ s. (refl, refl);
   updates = λ r. (refl, refl);
-  calls = λ p e t. trail-call p p e t ∙ ap (λ (b : Bool). cond b (t ++ e ∷ []) t) (eq-eqb p p refl);
+  calls = comes-in;
+  trails = λ p e t. trail-call p p e t ∙ ap (λ (b : Bool). cond b (t ++ e ∷ []) t) (eq-eqb p p refl);
 }
 
 pub stream-trail : (es : List Event) (h : History) (q : ℕ) → AllRecorded es (h .area) → afterAll (calls es) h .trail q ≡ h .trail q ++ eventsOf q es

@@ -58,7 +58,7 @@ areaRefusals l p rs = refusal 1 (not (goodBytes l)) ∷ refusal 3 (not (valid p)
 abbrev pub lastKind : ℕ
 lastKind = 3
 
--- kind 0 is deny and 1 allow, and the number a set; 2 is withdrawn and 3 given, and the number a role
+-- kind 0 is deny and 1 allow, and the number a set; 2 is withdrawn and 3 given, and the number a role; what is above 3 is refused before
 unfoldable pub happened : ℕ → ℕ → Happening
 happened k x =
     cond (eqb k 0) (Deny (record { bits = x }))

@@ -8,7 +8,7 @@
 --     eventGrounds           the grounds of an event, in the order of Rules, Answers
 --     Demand1                any numbers and any bytes get an answer of the table, each refusal exactly on its ground
 --     NoRow l p, Forgetting  p has no row; so it is after 8 and after a forget
---     Kinds                  what each kind says of the number beside it, and the call by which each event comes in
+--     Kinds                  what each kind says of the number beside it; the kind and number by which each event comes in, and that it is on the trail
 --     Demand2                over every history decide says what the possible holder sets of the trail force
 --     Whom                   with 12 it gives the one role to ask about; exactly with any other answer 64, on any bytes
 --     About q c              the call c is about the permission q, as opening is about every one
@@ -110,7 +110,8 @@ pub record Forgetting : Type 0 where
 pub record Kinds : Type 0 where
   pub replies : (s : RoleSet) → (happened 0 (s .bits) ≡ Deny s) × (happened 1 (s .bits) ≡ Allow s)
   pub updates : (r : ℕ) → (happened 2 r ≡ Withdrawn r) × (happened 3 r ≡ Given r)
-  pub calls : (p : ℕ) (e : Happening) (t : List Happening) → trailAfter p (callFor p e) 0 t ≡ t ++ e ∷ []
+  pub calls : (p : ℕ) (e : Happening) → (k : ℕ) × (x : ℕ) × (k ≤ 3) × (callFor p e ≡ event p k x) × (happened k x ≡ e)
+  pub trails : (p : ℕ) (e : Happening) (t : List Happening) → trailAfter p (callFor p e) 0 t ≡ t ++ e ∷ []
 
 -- ---- demand 2: allow exactly when every possible holder set shares a role with the session, deny exactly when none does,
 -- undecided otherwise

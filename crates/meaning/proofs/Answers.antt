@@ -20,12 +20,12 @@ pub fits-law : (w : Row) → T (fits w) ↔ (length (w .opens) ≤ mostOpens)
 unfolding fits
 fits-law w = (leb→le (length (w .opens)) mostOpens, le→leb (length (w .opens)) mostOpens)
 
-pub fits-not-law : (w : Row) → T (not (fits w)) ↔ (mostOpens < length (w .opens))
+fits-not-law : (w : Row) → T (not (fits w)) ↔ (mostOpens < length (w .opens))
 unfolding fits
 fits-not-law w = (nleb→lt (length (w .opens)) mostOpens, lt→nleb (length (w .opens)) mostOpens)
 
 -- an update is never contradicted
-pub update-agrees : (e : Happening) (w : Row) → ¬ (Reply e) → T (not (contradicts e w))
+update-agrees : (e : Happening) (w : Row) → ¬ (Reply e) → T (not (contradicts e w))
 unfolding contradicts
 update-agrees (Allow s) w n = absurd (n tt)
 update-agrees (Deny s) w n = absurd (n tt)
@@ -54,7 +54,7 @@ case fit e w = go (contradicts e w) (fit (step e w)) refl refl
     go false true p q = taken (subst⁻¹ (λ (x : Bool). T (not x)) p tt) (subst⁻¹ T q tt)
     go false false p q = over e (subst⁻¹ (λ (x : Bool). T (not x)) p tt) (subst⁻¹ (λ (x : Bool). T (not x)) q tt)
 
--- what has room counts for the row after the event alone
+-- two tests of room that agree on the row after the event give the same answer
 pub settle-by : (fit fit′ : Row → Bool) (e : Happening) (w : Row) → fit (step e w) ≡ fit′ (step e w) → settle fit e w ≡ settle fit′ e w
 unfolding settle
 settle-by fit fit′ e w q = ap (λ (b : Bool). cond (contradicts e w) (unchanged 6 w) (cond b (record { answer = 0; row = step e w }) (overflow e w))) q

@@ -19,6 +19,7 @@ pub extern "C" fn wickthrush_open(area: &mut [u8], roles: u64) -> u32
 pub extern "C" fn wickthrush_event(area: &mut [u8], permission: u32, kind: u64, number: u64) -> u32
     ensures { λ n. ⌜ Returns (eventOf (now (area .entry)) permission kind number) n (now (area .exit)) ⌝ }
 {
+    // number is an argument here
     calls::number(cache::event(area, permission, kind, number))
 }
 

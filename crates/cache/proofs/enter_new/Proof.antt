@@ -1,7 +1,7 @@
 -- `cache::enter_new` meets its contract. Assumes nothing.
 use borrow.Author.Needs.{needs}
 use mathlib.Core.Path.{_≡_, refl, sym, ap, _∙_}
-use mathlib.Core.Bool.{false, not, _||_}
+use mathlib.Core.Bool.{true, false, not, _||_}
 use mathlib.Core.List.{List}
 use mathlib.Core.Logic.{_≢_}
 use Prim.Native.Nat.{ℕ}
@@ -9,7 +9,9 @@ use lib.Dec.{T, eqb}
 use Rattle.roles.proofs.Tests.{unlike}
 use Rattle.words.specs.Words.{Bytes}
 use Rattle.meaning.specs.declared.Happening.{Happening}
-use Rattle.meaning.specs.Rows.{Row, blank, fits, settle}
+use Rattle.meaning.specs.Rows.{Row, blank, fits, Settled, settle}
+use Rattle.meaning.proofs.Answers as answers
+use Rattle.meaning.proofs.Answers.{Case, taken, no-room, dropped, case}
 use Rattle.area.specs.State.{isBlank, stateOf}
 use Rattle.rows.specs.Stored.{rowOf, storedRow}
 use Rattle.rows.specs.declared.Row as value
@@ -21,7 +23,7 @@ use Rattle.calls.specs.declared.Answer.the-variants.{Contradiction, Full, Forgo
 use Rattle.calls.specs.Calls.{stays, settledIn, eventIn}
 use Rattle.calls.specs.Answers.{numberOf, Gives}
 use Rattle.cache.specs.Fresh.{Fresh}
-use Rattle.cache.proofs.Ladder.{gives, settled-refused, settled-stays, settled-writes, recorded⇒taken, forgotten⇒blank}
+use Rattle.cache.proofs.Ladder.{gives, settled-refused, settled-stays, settled-writes}
 use Rattle.cache.proofs.Writes.{event-none, area-kept, blank-proper, known-64, answered}
 use Rattle.cache.proofs.enter_new.Statement.{statement}
 use Rattle.cache.proofs.enter_new.Tie as tie
@@ -37,16 +39,26 @@ module _ (l : List ℕ) (s : Sound l) (p i : ℕ) (e : Happening) (f : foundFor 
   refuses r n a x = gives (eventIn l p e) r l (refused (λ z. unlike n (sym a ∙ z)) ∙ settled-stays l (stateOf l) p (settle fits e blank) (numberOf r) a x)
 
   -- there is no row to be dropped
+  no-row : (t : Settled) → Case fits e blank t → t .answer ≡ 8 → isBlank (t .row) ≡ true
+  no-row t (answers.refused c) a = unlike tt a
+  no-row t (taken c f) a = unlike tt a
+  no-row t (no-room r c f) a = unlike tt a
+  no-row t (dropped r f) a = refl
+
   drops : Bytes l → settle fits e blank .answer ≡ 8 → Gives (eventIn l p e) Forgotten l
   drops bytes a =
       gives (eventIn l p e) Forgotten l
       (refused (λ z. unlike tt (sym a ∙ z)) ∙ settled-writes l (stateOf l) p (settle fits e blank) 8 a refl
-      ∙ ap (stays 8) (area-kept l s p i f (settle fits e blank .row) (ap isBlank (forgotten⇒blank e blank a)) bytes))
+      ∙ ap (stays 8) (area-kept l s p i f (settle fits e blank .row) (no-row (settle fits e blank) (case fits e blank) a) bytes))
 
 fresh : (e : Happening) (w : value.Row) → w ≡ storedRow (settle fits e blank .row) → settle fits e blank .answer ≡ 0 → Fresh e w
-fresh e w q a =
-    let t = recorded⇒taken e blank a in
-    record { agrees = t .agrees; room = t .room; row = q ∙ ap storedRow (t .row) }
+fresh e w = go (settle fits e blank) (case fits e blank)
+  where
+    go : (t : Settled) → Case fits e blank t → w ≡ storedRow (t .row) → t .answer ≡ 0 → Fresh e w
+    go t (answers.refused c) q a = unlike tt a
+    go t (taken c f) q a = record { agrees = c; room = f; row = q }
+    go t (no-room r c f) q a = unlike tt a
+    go t (dropped r f) q a = unlike tt a
 
 -- ---- the needs
 
