@@ -59,24 +59,16 @@ static bool is_reply(const struct event *event)
 static void print_event(const struct event *event)
 {
     switch (event->kind) {
-    case WICKTHRUSH_REPLY_DENY:
-        printf("denied to ");
-        print_session(event->number);
-        break;
-    case WICKTHRUSH_REPLY_ALLOW:
-        printf("allowed to ");
-        print_session(event->number);
-        break;
-    case WICKTHRUSH_WITHDRAWN:
-        printf("withdrawn from ");
-        print_role(event->number);
-        break;
-    case WICKTHRUSH_GIVEN:
-        printf("given to ");
-        print_role(event->number);
-        break;
-    default: printf("of an unknown kind"); break;
+    case WICKTHRUSH_REPLY_DENY: printf("denied to "); break;
+    case WICKTHRUSH_REPLY_ALLOW: printf("allowed to "); break;
+    case WICKTHRUSH_WITHDRAWN: printf("withdrawn from "); break;
+    case WICKTHRUSH_GIVEN: printf("given to "); break;
+    default: printf("of an unknown kind"); return;
     }
+    if (is_reply(event))
+        print_session(event->number);
+    else
+        print_role(event->number);
 }
 
 /* All kinds in one, oldest first. With a queue for replies and one for updates an event can overtake another. */

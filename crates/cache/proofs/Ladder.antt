@@ -1,13 +1,13 @@
 -- The answer to an event on a good area, by what the row's step comes to. Assumes nothing.
-use mathlib.Core.Path.{_≡_, refl, sym, ap}
-use mathlib.Core.Bool.{Bool, true, false, cond, _||_}
+use mathlib.Core.Path.{_≡_, sym, ap}
+use mathlib.Core.Bool.{true, false, _||_}
 use mathlib.Core.List.{List}
 use mathlib.Core.Logic.{_≢_}
 use Prim.Native.Nat.{ℕ}
 use lib.Dec.{eqb}
 use Rattle.meaning.specs.declared.Happening.{Happening}
-use Rattle.meaning.specs.Rows.{Row, fits, contradicts, step, Settled, unchanged, overflow, settle}
-use Rattle.meaning.proofs.Answers.{settle-by}
+use Rattle.meaning.specs.Rows.{Row, fits, step, Settled, settle}
+use Rattle.meaning.proofs.Answers.{settle-by, settle-refuses}
 use Rattle.area.specs.State.{State, isBlank, rowFor, withRow}
 use Rattle.calls.specs.declared.Answer.{Answer}
 use Rattle.calls.specs.Calls.{Out, stays, writes, fitsIn, settledIn}
@@ -26,15 +26,8 @@ module _ (l : List ℕ) (s : State) (p : ℕ) (e : Happening) (w : Row) where
 
   -- what the row alone refuses needs no room
   pub settled-refused : settle fits e w .answer ≢ 0 → eventOn l s p e w ≡ settledIn l s p (settle fits e w)
-  unfolding eventOn settle
-  settled-refused n = go (contradicts e w) (fits (step e w)) refl n
-    where
-      go : (c f : Bool) → fits (step e w) ≡ f → cond c (unchanged 6 w) (cond f (record { answer = 0; row = step e w }) (overflow e w)) .answer ≢ 0
-          → settledIn l s p (cond c (unchanged 6 w) (cond (fitsIn s p (step e w)) (record { answer = 0; row = step e w }) (overflow e w)))
-          ≡ settledIn l s p (cond c (unchanged 6 w) (cond f (record { answer = 0; row = step e w }) (overflow e w)))
-      go true f q n = refl
-      go false true q n = absurd (n refl)
-      go false false q n = ap (λ (b : Bool). settledIn l s p (cond b (record { answer = 0; row = step e w }) (overflow e w))) (unfit s p (step e w) q)
+  unfolding eventOn
+  settled-refused n = ap (settledIn l s p) (settle-refuses fits (fitsIn s p) e w (unfit s p (step e w)) n)
 
 module _ (l : List ℕ) (s : State) (p : ℕ) (t : Settled) where
   pub settled-stays : (a : ℕ) → t .answer ≡ a → (eqb a 0 || eqb a 8) ≡ false → settledIn l s p t ≡ stays a l

@@ -19,6 +19,7 @@ use Rattle.meaning.specs.declared.Happening.{Happening}
 use Rattle.meaning.specs.declared.Happening.the-variants.{Given}
 use Rattle.meaning.specs.Events.{rolesIn, known, lastPermission, isReply}
 use Rattle.meaning.specs.Rows.{Row, blank, fits, contradicts, step, unchanged, forgotten, overflow, settle, Decided, bare, decide}
+use Rattle.meaning.proofs.Answers.{settle-contradicts, settle-records, settle-overflows}
 use Rattle.meaning.proofs.Theorems.{ask-some, ask-none, ask-most}
 use Rattle.area.specs.Layout.{mostRows, areaBytes, goodBytes}
 use Rattle.area.specs.State.{State, opened, isBlank, rowFor, withRow, stateOf}
@@ -113,20 +114,20 @@ event-in l p e = refl
 
 module _ (l : List ℕ) (s : State) (p : ℕ) (e : Happening) (w : Row) where
   pub event-contradicts : contradicts e w ≡ true → eventOn l s p e w ≡ stays 6 l
-  unfolding eventOn settle
-  event-contradicts c = rw c
+  unfolding eventOn
+  event-contradicts c = ap (settledIn l s p) (settle-contradicts (fitsIn s p) e w c)
 
   pub event-unfit : contradicts e w ≡ false → fitsIn s p (step e w) ≡ false → eventOn l s p e w ≡ cond (isReply e) (stays 7 l) (writes 8 (withRow s p blank))
-  unfolding eventOn settle overflow
-  event-unfit c f = rw (c, f) (go (isReply e))
+  unfolding eventOn overflow
+  event-unfit c f = ap (settledIn l s p) (settle-overflows (fitsIn s p) e w c f) ∙ go (isReply e)
     where
       go : (b : Bool) → settledIn l s p (cond b (unchanged 7 w) forgotten) ≡ cond b (stays 7 l) (writes 8 (withRow s p blank))
       go true = refl
       go false = refl
 
   pub event-recorded : contradicts e w ≡ false → fitsIn s p (step e w) ≡ true → eventOn l s p e w ≡ writes 0 (withRow s p (step e w))
-  unfolding eventOn settle
-  event-recorded c f = rw (c, f)
+  unfolding eventOn
+  event-recorded c f = ap (settledIn l s p) (settle-records (fitsIn s p) e w c f)
 
 -- ---- an event as its numbers say it
 
@@ -169,6 +170,14 @@ reply-kind zero x = refl
 reply-kind (suc zero) x = refl
 reply-kind (suc (suc zero)) x = refl
 reply-kind (suc (suc (suc k))) x = ap isReply (from-three k x) ∙ sym (lt-leb (suc (suc (suc k))) 1 (omega arith))
+
+-- so 7 is theirs, and 8 that of the others
+pub unfit-answer : (l : List ℕ) (s : State) (k x : ℕ) → cond (isReply (happened k x)) (stays 7 l) (writes 8 s) .answer ≡ cond (leb k 1) 7 8
+unfit-answer l s k x = go (isReply (happened k x)) ∙ ap (λ (b : Bool). cond b 7 8) (reply-kind k x)
+  where
+    go : (b : Bool) → cond b (stays 7 l) (writes 8 s) .answer ≡ cond b 7 8
+    go true = refl
+    go false = refl
 
 -- their number is a set, that of the other kinds a role
 pub roles-kind : (k x : ℕ) → rolesIn (happened k x) ≡ cond (leb k 1) x (single x)

@@ -22,7 +22,7 @@ use Rattle.area.proofs.RowLaws.{hit-law, hit?, rowFor-good, rowFor-few, rowFor-
 use Rattle.calls.specs.Calls.{Out, stays, writes, valid, fitsIn, lastKind, happened, eventOf}
 use Rattle.calls.specs.Histories.{History}
 use Rattle.calls.specs.Demands as demands
-use Rattle.calls.proofs.CallLaws.{valid-law, fitsIn-over, fitsIn-blank, fitsIn-room, eventOn, event-contradicts, event-unfit, event-recorded, reply-kind}
+use Rattle.calls.proofs.CallLaws.{valid-law, fitsIn-over, fitsIn-blank, fitsIn-room, eventOn, event-contradicts, event-unfit, event-recorded, unfit-answer}
 use Rattle.calls.proofs.Outcomes.{put-state, event-is}
 use Rattle.calls.proofs.Invariant.{Holds, trailOn-recorded, trailOn-other, begun-holds}
 
@@ -170,12 +170,8 @@ full h g p i x ok b kn =
     let kn′ : T (known (s .roles) e) = subst⁻¹ (λ (m : ℕ). T (known m e)) (k .roles) kn in
     subst⁻¹ (λ (o : Out). demands.Said (h .roles) p (demands.trailsWith h p e) (o .answer) (demands.noRoom i))
     (ap (λ (l : List ℕ). eventOf l p i x) (k .area) ∙ event-is s (k .good) p i x ok (le→leb i lastKind b) kn′)
-    (said h k p ok e kn (demands.noRoom i) (other (leb i 1) .0) (other (leb i 1) .1) (unfit s (isReply e) ∙ ap (λ (r : Bool). cond r 7 8) (reply-kind i x)))
+    (said h k p ok e kn (demands.noRoom i) (other (leb i 1) .0) (other (leb i 1) .1) (unfit-answer (areaOf s) (withRow s p blank) i x))
   where
     other : (r : Bool) → T (not (eqb 0 (cond r 7 8))) × T (not (eqb 6 (cond r 7 8)))
     other true = (tt, tt)
     other false = (tt, tt)
-
-    unfit : (s : State) (r : Bool) → cond r (stays 7 (areaOf s)) (writes 8 (withRow s p blank)) .answer ≡ cond r 7 8
-    unfit s true = refl
-    unfit s false = refl

@@ -15,15 +15,15 @@ use Rattle.refusals.specs.Refusals.{Refusal, refusal, refuse, Ground, ground, E
 use Rattle.refusals.proofs.Laws.{lacks, distinct, Tests, refuse-has, refuse-exactly}
 use Rattle.meaning.specs.declared.Happening.{Happening}
 use Rattle.meaning.specs.Events.{known, Verdict, isReply}
-use Rattle.meaning.specs.Rows.{Row, blank, contradicts, step, fits, unchanged, forgotten, overflow, settle, bare, decide}
+use Rattle.meaning.specs.Rows.{Row, blank, contradicts, step, fits, bare, decide}
 use Rattle.meaning.proofs.Answers.{fits-law}
 use Rattle.meaning.proofs.Theorems.{one-of-three}
 use Rattle.area.specs.Layout.{mostRows, areaBytes, goodBytes}
 use Rattle.area.specs.State.{State, opened, isBlank, rowFor, withRow, stateOf}
-use Rattle.calls.specs.Calls.{Out, stays, writes, valid, fitsIn, openRefusals, areaRefusals, lastKind, happened, eventRefusals, settledIn, eventIn, eventOf, openOf, decideOf, forgetOf}
+use Rattle.calls.specs.Calls.{Out, stays, writes, valid, fitsIn, openRefusals, areaRefusals, lastKind, happened, eventRefusals, eventOf, openOf, decideOf, forgetOf}
 use Rattle.calls.specs.Histories.{outOf}
 use Rattle.calls.specs.Demands.{OnGrounds, IsRecorded, areaGrounds, Unknown, NoPlace, noRoom, eventGrounds, Demand1}
-use Rattle.calls.proofs.CallLaws.{valid-law, fitsIn-law, fitsIn-over, fitsIn-blank, fitsIn-room, reply-kind, roles-kind}
+use Rattle.calls.proofs.CallLaws.{valid-law, fitsIn-law, fitsIn-over, fitsIn-blank, fitsIn-room, eventOn, event-in, event-contradicts, event-unfit, event-recorded, reply-kind, roles-kind}
 
 -- ---- what the tests say
 
@@ -135,15 +135,18 @@ module _ (l : List ℕ) (p k x : ℕ) where
   own-grounds = ground 5 (3 < k) ∷ ground 4 (Unknown (s .roles) k x) ∷ ground 6 (T (contradicts e w)) ∷ ground (noRoom k) (NoPlace s p (step e w)) ∷ []
 
   one-list : eventOf l p k x ≡ refuse (areaRefusals l p own) left (writes 0 (withRow s p (step e w)))
-  unfolding eventOf eventIn settle overflow left
-  one-list = ap (λ (o : Out). refuse (eventRefusals l p k e) (λ a. stays a l) o) (go (contradicts e w) (fitsIn s p (step e w)) (isReply e))
+  unfolding eventOf left
+  one-list = ap (λ (o : Out). refuse (eventRefusals l p k e) (λ a. stays a l) o) (event-in l p e ∙ go (contradicts e w) refl (fitsIn s p (step e w)) refl)
     where
-      go : (c f r : Bool) → settledIn l s p (cond c (unchanged 6 w) (cond f (record { answer = 0; row = step e w }) (cond r (unchanged 7 w) forgotten)))
-          ≡ cond c (left 6) (cond (not f) (left (cond r 7 8)) (writes 0 (withRow s p (step e w))))
-      go true f r = refl
-      go false true r = refl
-      go false false true = refl
-      go false false false = refl
+      unfit : (r : Bool) → cond r (stays 7 l) (writes 8 (withRow s p blank)) ≡ left (cond r 7 8)
+      unfit true = refl
+      unfit false = refl
+
+      go : (c : Bool) → contradicts e w ≡ c → (f : Bool) → fitsIn s p (step e w) ≡ f
+          → eventOn l s p e w ≡ cond c (left 6) (cond (not f) (left (cond (isReply e) 7 8)) (writes 0 (withRow s p (step e w))))
+      go true c f q = event-contradicts l s p e w c
+      go false c true q = event-recorded l s p e w c q
+      go false c false q = event-unfit l s p e w c q ∙ unfit (isReply e)
 
   event-answers : OnGrounds l (eventOf l p k x) (eventGrounds l p k x) IsRecorded
   event-answers =

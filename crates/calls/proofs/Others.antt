@@ -11,7 +11,7 @@ use lib.ListN.{length}
 use Rattle.roles.specs.Sets.{mostRoles}
 use Rattle.roles.proofs.Tests.{T-true}
 use Rattle.meaning.specs.declared.Happening.{Happening}
-use Rattle.meaning.specs.Events.{known, isReply}
+use Rattle.meaning.specs.Events.{known}
 use Rattle.meaning.specs.Rows.{Row, blank, Leaves, fits, contradicts, step, rowAfter, Decided}
 use Rattle.meaning.proofs.Kept.{blank-good}
 use Rattle.meaning.proofs.Trails.{blank-leaves}
@@ -20,11 +20,11 @@ use Rattle.area.specs.Layout.{mostRows, areaBytes}
 use Rattle.area.specs.State.{State, GoodState, isBlank, rowFor, withRow, stateOf, areaOf}
 use Rattle.area.proofs.RowLaws.{isBlank-law}
 use Rattle.area.proofs.Bytes.{length-area, area-state}
-use Rattle.calls.specs.Calls.{Out, stays, writes, valid, fitsIn, lastKind, happened, eventOf, openOf, forgetOf}
+use Rattle.calls.specs.Calls.{Out, valid, fitsIn, lastKind, happened, eventOf, openOf, forgetOf}
 use Rattle.calls.specs.Histories.{Call, opening, event, ask, forget, outOf, trailOn, trailAfter, History, next}
 use Rattle.calls.specs.Demands as demands
-use Rattle.calls.proofs.CallLaws.{open-bad-count, open-recorded, fitsIn-law, eventOn, event-contradicts, event-unfit, event-recorded, event-no-permission, event-bad-kind, event-unknown, reply-kind, forget-no-permission, forget-forgets}
-use Rattle.calls.proofs.Outcomes.{area-is-good, event-is}
+use Rattle.calls.proofs.CallLaws.{open-bad-count, open-recorded, fitsIn-law, eventOn, event-contradicts, event-unfit, event-recorded, event-no-permission, event-bad-kind, event-unknown, unfit-answer, forget-no-permission, forget-forgets}
+use Rattle.calls.proofs.Outcomes.{area-is-good, known-in, event-is}
 use Rattle.calls.proofs.Invariant.{Holds, next-holds, begun-holds}
 use Rattle.calls.proofs.Decisions.{other-stays, no-other}
 use Rattle.calls.proofs.Grounds.{new-row}
@@ -47,13 +47,6 @@ event-by s g p i x = go (valid p) refl (leb i lastKind) refl (known (s .roles) e
     w : Row
     w = rowFor p (s .rows)
 
-    known-in : known (stateOf (areaOf s) .roles) e ≡ known (s .roles) e
-    known-in = ap (λ (u : State). known (u .roles) e) (area-state s g)
-
-    unfit-number : (r : Bool) → cond r (stays 7 (areaOf s)) (writes 8 (withRow s p blank)) .answer ≡ cond r 7 8
-    unfit-number true = refl
-    unfit-number false = refl
-
     on : valid p ≡ true → leb i lastKind ≡ true → known (s .roles) e ≡ true → (o : Out) → eventOn (areaOf s) s p e w ≡ o → eventOf (areaOf s) p i x .answer ≡ o .answer
     on v b k o q = ap (λ (y : Out). y .answer) (event-is s g p i x (subst⁻¹ T v tt) (subst⁻¹ T b tt) (subst⁻¹ T k tt) ∙ q)
 
@@ -61,10 +54,10 @@ event-by s g p i x = go (valid p) refl (leb i lastKind) refl (known (s .roles) e
         → (f : Bool) → fitsIn s p (step e w) ≡ f → eventOf (areaOf s) p i x .answer ≡ answerBy v b k c f (demands.noRoom i)
     go false v b x′ k y c z f q = ap (λ (o : Out). o .answer) (event-no-permission (areaOf s) p i x (area-is-good s g) v)
     go true v false b k y c z f q = ap (λ (o : Out). o .answer) (event-bad-kind (areaOf s) p i x (area-is-good s g) v b)
-    go true v true b false y c z f q = ap (λ (o : Out). o .answer) (event-unknown (areaOf s) p i x (area-is-good s g) v b (known-in ∙ y))
+    go true v true b false y c z f q = ap (λ (o : Out). o .answer) (event-unknown (areaOf s) p i x (area-is-good s g) v b (known-in s g e ∙ y))
     go true v true b true y true z f q = on v b y _ (event-contradicts (areaOf s) s p e w z)
     go true v true b true y false z true q = on v b y _ (event-recorded (areaOf s) s p e w z q)
-    go true v true b true y false z false q = on v b y _ (event-unfit (areaOf s) s p e w z q) ∙ unfit-number (isReply e) ∙ ap (λ (r : Bool). cond r 7 8) (reply-kind i x)
+    go true v true b true y false z false q = on v b y _ (event-unfit (areaOf s) s p e w z q) ∙ unfit-answer (areaOf s) (withRow s p blank) i x
 
 -- ---- a row that fits in one area and not in the other
 

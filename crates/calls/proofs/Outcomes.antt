@@ -58,6 +58,10 @@ pub data Outcome (s : State) (p : ℕ) (e : Happening) : Out → Type 0 where
 pub area-is-good : (s : State) → GoodState s → goodBytes (areaOf s) ≡ true
 area-is-good s g = T-true (goodBytes (areaOf s)) (area-good s g)
 
+-- the area has the state's roles
+pub known-in : (s : State) → GoodState s → (e : Happening) → known (stateOf (areaOf s) .roles) e ≡ known (s .roles) e
+known-in s g e = ap (λ (u : State). known (u .roles) e) (area-state s g)
+
 module _ (s : State) (g : GoodState s) (p : ℕ) where
   event-on : T (valid p) → (e : Happening) → T (known (s .roles) e) → Outcome s p e (eventOn (areaOf s) s p e (rowFor p (s .rows)))
   event-on v e kn = go (contradicts e w) refl (fitsIn s p (step e w)) refl
@@ -83,18 +87,15 @@ module _ (s : State) (g : GoodState s) (p : ℕ) where
   -- an event that is refused neither by 3 nor 5 nor 4
   pub event-is : (k x : ℕ) → T (valid p) → T (leb k lastKind) → T (known (s .roles) (happened k x)) → eventOf (areaOf s) p k x ≡ eventOn (areaOf s) s p (happened k x) (rowFor p (s .rows))
   event-is k x v b kn =
-      event-known (areaOf s) p k x (area-is-good s g) (T-true (valid p) v) (T-true (leb k lastKind) b) (known-in ∙ T-true (known (s .roles) (happened k x)) kn)
+      event-known (areaOf s) p k x (area-is-good s g) (T-true (valid p) v) (T-true (leb k lastKind) b) (known-in s g (happened k x) ∙ T-true (known (s .roles) (happened k x)) kn)
       ∙ event-in (areaOf s) p (happened k x)
       ∙ ap (λ (u : State). eventOn (areaOf s) u p (happened k x) (rowFor p (u .rows))) (area-state s g)
-    where
-      known-in : known (stateOf (areaOf s) .roles) (happened k x) ≡ known (s .roles) (happened k x)
-      known-in = ap (λ (u : State). known (u .roles) (happened k x)) (area-state s g)
 
   -- any numbers
   pub event-does : (k x : ℕ) → Outcome s p (happened k x) (eventOf (areaOf s) p k x)
   event-does k x = ⊎-elim (λ v. ⊎-elim (λ b. ⊎-elim
       (λ n. subst⁻¹ Does (event-is k x v b n) (event-on v (happened k x) n))
-      (λ n. subst⁻¹ Does (event-unknown (areaOf s) p k x (area-is-good s g) (T-true (valid p) v) (T-true (leb k lastKind) b) (ap (λ (u : State). known (u .roles) (happened k x)) (area-state s g) ∙ T-false (known (s .roles) (happened k x)) n)) (refused 4 (λ z. omega arith) (λ z. omega arith)))
+      (λ n. subst⁻¹ Does (event-unknown (areaOf s) p k x (area-is-good s g) (T-true (valid p) v) (T-true (leb k lastKind) b) (known-in s g (happened k x) ∙ T-false (known (s .roles) (happened k x)) n)) (refused 4 (λ z. omega arith) (λ z. omega arith)))
       (T? (known (s .roles) (happened k x))))
       (λ b. subst⁻¹ Does (event-bad-kind (areaOf s) p k x (area-is-good s g) (T-true (valid p) v) (T-false (leb k lastKind) b)) (refused 5 (λ z. omega arith) (λ z. omega arith)))
       (T? (leb k lastKind)))

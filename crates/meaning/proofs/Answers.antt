@@ -1,7 +1,7 @@
 -- The answer to an event, exactly on its ground, and the row afterwards. Assumes nothing.
-use mathlib.Core.Path.{_≡_, refl, ap, subst⁻¹}
+use mathlib.Core.Path.{_≡_, refl, sym, ap, _∙_, subst⁻¹}
 use mathlib.Core.Bool.{Bool, true, false, not, cond}
-use mathlib.Core.Logic.{_↔_, ⊎-elim}
+use mathlib.Core.Logic.{_↔_, _≢_, ⊎-elim}
 use Prim.Native.Nat.{ℕ, _≤_, _<_}
 use native.Mathlib.Omega.{arith}
 use lib.Dec.{T, T-not, leb→le, le→leb, nleb→lt}
@@ -54,10 +54,33 @@ case fit e w = go (contradicts e w) (fit (step e w)) refl refl
     go false true p q = taken (subst⁻¹ (λ (x : Bool). T (not x)) p tt) (subst⁻¹ T q tt)
     go false false p q = over e (subst⁻¹ (λ (x : Bool). T (not x)) p tt) (subst⁻¹ (λ (x : Bool). T (not x)) q tt)
 
+-- rung by rung
+module _ (fit : Row → Bool) (e : Happening) (w : Row) where
+  pub settle-contradicts : contradicts e w ≡ true → settle fit e w ≡ unchanged 6 w
+  unfolding settle
+  settle-contradicts c = rw c
+
+  pub settle-records : contradicts e w ≡ false → fit (step e w) ≡ true → settle fit e w ≡ record { answer = 0; row = step e w }
+  unfolding settle
+  settle-records c f = rw (c, f)
+
+  pub settle-overflows : contradicts e w ≡ false → fit (step e w) ≡ false → settle fit e w ≡ overflow e w
+  unfolding settle
+  settle-overflows c f = rw (c, f)
+
 -- two tests of room that agree on the row after the event give the same answer
 pub settle-by : (fit fit′ : Row → Bool) (e : Happening) (w : Row) → fit (step e w) ≡ fit′ (step e w) → settle fit e w ≡ settle fit′ e w
 unfolding settle
 settle-by fit fit′ e w q = ap (λ (b : Bool). cond (contradicts e w) (unchanged 6 w) (cond b (record { answer = 0; row = step e w }) (overflow e w))) q
+
+-- what one test of room refuses is so refused where another has no more room
+pub settle-refuses : (fit fit′ : Row → Bool) (e : Happening) (w : Row) → (fit (step e w) ≡ false → fit′ (step e w) ≡ false) → settle fit e w .answer ≢ 0 → settle fit′ e w ≡ settle fit e w
+settle-refuses fit fit′ e w less n = go (contradicts e w) refl (fit (step e w)) refl
+  where
+    go : (c : Bool) → contradicts e w ≡ c → (f : Bool) → fit (step e w) ≡ f → settle fit′ e w ≡ settle fit e w
+    go true c f q = settle-contradicts fit′ e w c ∙ sym (settle-contradicts fit e w c)
+    go false c true q = absurd (n (ap (λ (t : Settled). t .answer) (settle-records fit e w c q)))
+    go false c false q = settle-by fit′ fit e w (less q ∙ sym q)
 
 module _ (n : ℕ) (e : Happening) (w : Row) (g : Good n w) (k : T (known n e)) where
   -- too many and few enough exclude each other

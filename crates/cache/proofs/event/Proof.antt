@@ -1,7 +1,7 @@
 -- `cache::event` meets its contract. Assumes nothing.
 use borrow.Author.Needs.{needs}
 use borrow.Author.Tests.{not-true, not-false}
-use mathlib.Core.Path.{_≡_, sym, ap, _∙_, subst}
+use mathlib.Core.Path.{_≡_, refl, sym, ap, _∙_, subst}
 use mathlib.Core.Bool.{Bool, true}
 use mathlib.Core.List.{List}
 use Prim.Native.Nat.{ℕ}
@@ -72,8 +72,8 @@ enter-requires c κs =
     let r = t .before in
     let h = r .before .before in
     let s = h .before .before .before .before .before .before .before in
-    let e = h .happened .result in
-    (sound (s .args .a .now) (is-true _ (good h)), is-true _ (sym (ap (λ (x : ℕ). known x e) (r .role-count .ensures)) ∙ sym (t .is-known .ensures) ∙ not-false _ (o .if4 .left)))
+    let l = s .args .a .now in
+    (sound l (is-true _ (good h)), is-true _ (known-at l (r .role-count .result) (h .happened .result) _ _ _ (r .role-count .ensures) refl (t .is-known .ensures) (not-false _ (o .if4 .left))))
 
 returns-5 : tie.Need-returns-5
 returns-5 c =
