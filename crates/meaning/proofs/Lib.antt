@@ -8,6 +8,7 @@ pub mod Kept
 pub mod Verdicts
 pub mod Answers
 pub mod Trails
+pub mod States
 pub mod Canonical
 pub mod Singles
 pub mod Theorems

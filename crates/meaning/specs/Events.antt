@@ -1,6 +1,6 @@
 -- What events mean: the holder sets that a trail of them leaves possible, the verdict that those force, and whom to ask about.
 -- A session may use a permission exactly when one of its roles holds it, as ANSI INCITS 359-2004 has it: it shares a role with the holder set.
---     lastPermission       permissions are 1 to this one
+--     lastPermission, lastPolicyState    permissions are 1 to this one, policy states 0 to this one
 --     rolesIn e            the roles that an event names
 --     known n e            they all lie below the role count n
 --     agrees e h           the holder set h agrees with the event as it arrives
@@ -27,6 +27,9 @@ use Rattle.meaning.specs.declared.Happening.the-variants.{Allow, Deny, G
 
 abbrev pub lastPermission : ℕ
 lastPermission = 4294967295
+
+abbrev pub lastPolicyState : ℕ
+lastPolicyState = 4294967295
 
 unfoldable pub rolesIn : Happening → ℕ
 rolesIn (Allow s) = s .bits

@@ -1,4 +1,5 @@
--- What the contracts and theorems of `meaning` cite: `Events` says what is true, `Rows` what is kept of it.
+-- What the contracts and theorems of `meaning` cite: `Events` says what is true, `States` in which policy state, `Rows` what is kept of it.
 pub mod Events
+pub mod States
 pub mod Lists
 pub mod Rows

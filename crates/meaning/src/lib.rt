@@ -1,8 +1,11 @@
-// What the cache is told: an event is a permission with one of four happenings.
+// What the cache is told: an event is a permission with one of four happenings, and the policy state that it is true in.
 use roles::RoleSet;
 
 // Permissions are 1 to this one.
 pub const LAST_PERMISSION: u64 = 4294967295;
+
+// Policy states are 0 to this one.
+pub const LAST_POLICY_STATE: u64 = 4294967295;
 
 // A row has at most so many open sets.
 pub const MOST_OPENS: usize = 15;
@@ -19,4 +22,5 @@ pub enum Happening {
 pub struct Event {
     pub permission: u32,
     pub happening: Happening,
+    pub state: u32,
 }

@@ -1,0 +1,178 @@
+-- Read by the states that its events name, a trail leaves the same holder sets possible as read in the order it came. Assumes nothing.
+use mathlib.Core.Path.{_≡_, refl, sym, ap, _∙_, subst, subst⁻¹}
+use mathlib.Core.Bool.{Bool, true, false, not, cond, _&&_}
+use mathlib.Core.List.{List, [], _∷_, _++_}
+use mathlib.Core.Logic.{_↔_}
+use Prim.Native.Nat.{ℕ, zero, suc, _≤_, _<_}
+use native.Mathlib.Decide.{ℕ-discrete}
+use native.Mathlib.Omega.{arith}
+use borrow.Author.Tests.{eq-eqb, ne-eqb, le-leb, lt-leb, lt-ltb}
+use lib.Dec.{T, eqb, leb, ltb, leb→le, le→leb, ltb→lt}
+use Rattle.meaning.specs.declared.Happening.{Happening}
+use Rattle.meaning.specs.declared.Happening.the-variants.{Allow, Deny, Given, Withdrawn}
+use Rattle.meaning.specs.Events.{agrees, after, isReply, Becomes, HolderSet, Possible}
+use Rattle.meaning.specs.States.{Numbered, events, became, Moves, TrueIn, PossibleIn, follows, Timely}
+
+-- a reply changes nothing, an update agrees with every holder set
+reply-stays : (e : Happening) (h : ℕ) → isReply e ≡ true → after e h ≡ h
+unfolding after
+reply-stays (Allow s) h r = refl
+reply-stays (Deny s) h r = refl
+reply-stays (Given x) h r = absurd (let z : _≡_ {A = ℕ} 0 1 = cc in let n : ⊥ = omega arith in n)
+reply-stays (Withdrawn x) h r = absurd (let z : _≡_ {A = ℕ} 0 1 = cc in let n : ⊥ = omega arith in n)
+
+update-agrees : (e : Happening) (h : ℕ) → isReply e ≡ false → T (agrees e h)
+unfolding agrees
+update-agrees (Allow s) h r = absurd (let z : _≡_ {A = ℕ} 0 1 = cc in let n : ⊥ = omega arith in n)
+update-agrees (Deny s) h r = absurd (let z : _≡_ {A = ℕ} 0 1 = cc in let n : ⊥ = omega arith in n)
+update-agrees (Given x) h r = tt
+update-agrees (Withdrawn x) h r = tt
+
+-- what an event's number says
+follows-reply : (g : ℕ) (e : Numbered) → isReply (e .happening) ≡ true → T (follows g e) → g ≤ e .state
+follows-reply g e r t = leb→le g (e .state) (subst (λ (b : Bool). T (cond b (leb g (e .state)) (ltb g (e .state)))) r t)
+
+follows-update : (g : ℕ) (e : Numbered) → isReply (e .happening) ≡ false → T (follows g e) → g < e .state
+follows-update g e r t = ltb→lt g (e .state) (subst (λ (b : Bool). T (cond b (leb g (e .state)) (ltb g (e .state)))) r t)
+
+follows-le : (g : ℕ) (e : Numbered) → T (follows g e) → g ≤ e .state
+follows-le g e t = go (isReply (e .happening)) refl
+  where
+    go : (b : Bool) → isReply (e .happening) ≡ b → g ≤ e .state
+    go true r = follows-reply g e r t
+    go false r = let h = follows-update g e r t in omega arith
+
+-- ---- states in which nothing changes
+
+became-other : (e : Numbered) (t : List Numbered) (k h : ℕ) → (isReply (e .happening) ≡ false → e .state ≡ k → ⊥) → became (e ∷ t) k h ≡ became t k h
+unfolding became
+became-other e t k h x = go (isReply (e .happening)) refl
+  where
+    go : (b : Bool) → isReply (e .happening) ≡ b → cond (not (isReply (e .happening)) && eqb (e .state) k) (after (e .happening) h) (became t k h) ≡ became t k h
+    go true r = rw r
+    go false r = rw (r, ne-eqb (e .state) k (x r))
+
+became-own : (e : Numbered) (t : List Numbered) (k h : ℕ) → isReply (e .happening) ≡ false → e .state ≡ k → became (e ∷ t) k h ≡ after (e .happening) h
+unfolding became
+became-own e t k h r q = rw (r, eq-eqb (e .state) k q)
+
+became-none : (k h : ℕ) → became [] k h ≡ h
+unfolding became
+became-none k h = refl
+
+-- no update of a trail that starts in state g has a number up to g
+quiet : (t : List Numbered) (g G k h : ℕ) → Timely g t G → k ≤ g → became t k h ≡ h
+quiet [] g G k h y le = became-none k h
+quiet (e ∷ t) g G k h y le =
+    became-other e t k h (λ r q. let c = follows-update g e r (y .0) in let z : ⊥ = omega arith in z)
+    ∙ quiet t (e .state) G k h (y .1) (let c = follows-le g e (y .0) in omega arith)
+
+-- from state g to state g + d
+still : (t : List Numbered) (f : ℕ → ℕ) (g : ℕ) → Moves g t f → (m : ℕ) → g ≤ m → ((k h : ℕ) → g ≤ k → k < m → became t (suc k) h ≡ h) → f m ≡ f g
+still t f g mv zero le q = ap f (let z : 0 ≡ g = omega arith in z)
+still t f g mv (suc m) le q = elim (ℕ-discrete (suc m) g) [
+  | yes e ↦ ap f e
+  | no n ↦ mv m (omega arith) ∙ q m (f m) (omega arith) (omega arith) ∙ still t f g mv m (omega arith) (λ k h a b. q k h a (omega arith))
+]
+
+-- ---- one event
+
+module _ (e : Numbered) (t : List Numbered) (f : ℕ → ℕ) (g G : ℕ) (y : Timely g (e ∷ t) G) (mv : Moves g (e ∷ t) f) where
+  here : (k h : ℕ) → g ≤ k → k < e .state → (isReply (e .happening) ≡ false → e .state ≡ suc k → ⊥) → became (e ∷ t) (suc k) h ≡ h
+  here k h a b x = became-other e t (suc k) h x ∙ quiet t (e .state) G (suc k) h (y .1) (omega arith)
+
+  -- the holder set in the state that the event names
+  named : (b : Bool) → isReply (e .happening) ≡ b → f (e .state) ≡ after (e .happening) (f g)
+  named true r =
+      still (e ∷ t) f g mv (e .state) (follows-le g e (y .0)) (λ k h a b. here k h a b (λ q z. absurd (let w : true ≡ false = sym r ∙ q in let z : _≡_ {A = ℕ} 0 1 = cc in let n : ⊥ = omega arith in n)))
+      ∙ sym (reply-stays (e .happening) (f g) r)
+  named false r = before (e .state) refl (follows-update g e r (y .0))
+    where
+      before : (m : ℕ) → e .state ≡ m → g < e .state → f (e .state) ≡ after (e .happening) (f g)
+      before zero q c = absurd (let z : ⊥ = omega arith in z)
+      before (suc m) q c =
+          ap f q ∙ mv m (omega arith) ∙ became-own e t (suc m) (f m) r q
+          ∙ ap (after (e .happening)) (still (e ∷ t) f g mv m (omega arith) (λ k h a b. here k h a (omega arith) (λ x z. let w : ⊥ = omega arith in w)))
+
+  in-state : f (e .state) ≡ after (e .happening) (f g)
+  in-state = named (isReply (e .happening)) refl
+
+  moves-on : Moves (e .state) t f
+  moves-on k a =
+      let c = follows-le g e (y .0) in
+      mv k (omega arith) ∙ became-other e t (suc k) (f k) (λ r q. let z : ⊥ = omega arith in z)
+
+  -- it agrees with the holder set as it came exactly when it does with the one of the state it names
+  agrees-named : T (agrees (e .happening) (f g)) ↔ T (agrees (e .happening) (f (e .state)))
+  agrees-named = go (isReply (e .happening)) refl
+    where
+      go : (b : Bool) → isReply (e .happening) ≡ b → T (agrees (e .happening) (f g)) ↔ T (agrees (e .happening) (f (e .state)))
+      go true r =
+          let q : f (e .state) ≡ f g = named true r ∙ reply-stays (e .happening) (f g) r in (
+            (λ a. subst⁻¹ (λ (h : ℕ). T (agrees (e .happening) h)) q a),
+            λ a. subst (λ (h : ℕ). T (agrees (e .happening) h)) q a,
+          )
+      go false r = ((λ a. update-agrees (e .happening) (f (e .state)) r), (λ a. update-agrees (e .happening) (f g) r))
+
+-- ---- a trail
+
+forward : (t : List Numbered) (f : ℕ → ℕ) (g G : ℕ) → Timely g t G → Moves g t f → TrueIn t f → Becomes (events t) (f g) (f G)
+forward [] f g G y mv a = sym (still [] f g mv G y (λ k h p q. became-none (suc k) h))
+forward (e ∷ t) f g G y mv a = (
+  agrees-named e t f g G y mv .1 (a .0),
+  subst (λ (h : ℕ). Becomes (events t) h (f G)) (in-state e t f g G y mv) (forward t f (e .state) G (y .1) (moves-on e t f g G y mv) (a .1)),
+)
+
+back : (t : List Numbered) (f : ℕ → ℕ) (g G h : ℕ) → Timely g t G → Moves g t f → Becomes (events t) (f g) h → TrueIn t f × (f G ≡ h)
+back [] f g G h y mv b = (tt, still [] f g mv G y (λ k h p q. became-none (suc k) h) ∙ b)
+back (e ∷ t) f g G h y mv b =
+    let r = back t f (e .state) G h (y .1) (moves-on e t f g G y mv) (subst⁻¹ (λ (x : ℕ). Becomes (events t) x h) (in-state e t f g G y mv) (b .1)) in
+    ((agrees-named e t f g G y mv .0 (b .0), r .0), r .1)
+
+-- the holder sets that the updates make of h from state g on
+line : ℕ → List Numbered → ℕ → ℕ → ℕ
+line g t h zero = h
+line g t h (suc k) = cond (leb g k) (became t (suc k) (line g t h k)) h
+
+line-start : (g : ℕ) (t : List Numbered) (h : ℕ) → line g t h g ≡ h
+unfolding line
+line-start zero t h = refl
+line-start (suc g) t h = rw (lt-leb (suc g) g (omega arith))
+
+line-moves : (g : ℕ) (t : List Numbered) (h : ℕ) → Moves g t (line g t h)
+unfolding line
+line-moves g t h k a = rw (le-leb g k a)
+
+-- read by the states that its events name, a trail leaves the same holder sets possible
+pub possible-in : (n g : ℕ) (t : List Numbered) (G : ℕ) → Timely g t G → (h : ℕ) → PossibleIn n g t G h ↔ Possible n (events t) h
+possible-in n g t G y h = (
+  (λ p. (p .0 g, p .1, subst (Becomes (events t) (p .0 g)) (p .4) (forward t (p .0) g G y (p .2) (p .3)))),
+  λ p.
+      let f = line g t (p .0) in
+      let q = line-start g t (p .0) in
+      let r = back t f g G h y (line-moves g t (p .0)) (subst⁻¹ (λ (x : ℕ). Becomes (events t) x h) q (p .2)) in
+      (f, subst⁻¹ (HolderSet n) q (p .1), line-moves g t (p .0), r .0, r .1),
+)
+
+-- ---- numbers one behind the other
+
+pub timely-ends : (g : ℕ) (t : List Numbered) (G : ℕ) → Timely g t G → g ≤ G
+timely-ends g [] G y = y
+timely-ends g (e ∷ t) G y = let a = follows-le g e (y .0) in let b = timely-ends (e .state) t G (y .1) in omega arith
+
+-- a later state ends the trail as well
+pub timely-later : (g : ℕ) (t : List Numbered) (G H : ℕ) → Timely g t G → G ≤ H → Timely g t H
+timely-later g [] G H y le = omega arith
+timely-later g (e ∷ t) G H y le = (y .0, timely-later (e .state) t G H (y .1) le)
+
+pub timely-then : (g : ℕ) (t : List Numbered) (G : ℕ) (e : Numbered) → Timely g t G → T (follows G e) → Timely g (t ++ e ∷ []) (e .state)
+timely-then g [] G e y f = (sooner (isReply (e .happening)) f, omega arith)
+  where
+    sooner : (b : Bool) → T (cond b (leb G (e .state)) (ltb G (e .state))) → T (cond b (leb g (e .state)) (ltb g (e .state)))
+    sooner true h = let k = leb→le G (e .state) h in le→leb g (e .state) (omega arith)
+    sooner false h = let k = ltb→lt G (e .state) h in subst⁻¹ T (lt-ltb g (e .state) (omega arith)) tt
+timely-then g (f ∷ t) G e y k = (y .0, timely-then (f .state) t G e (y .1) k)
+
+pub events-then : (t : List Numbered) (e : Numbered) → events (t ++ e ∷ []) ≡ events t ++ e .happening ∷ []
+events-then [] e = refl
+events-then (f ∷ t) e = ap (λ (l : List Happening). f .happening ∷ l) (events-then t e)

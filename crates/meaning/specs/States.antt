@@ -1,0 +1,49 @@
+-- What numbered events mean: a reply is true in the policy state that it names, whenever it comes, and an update makes the state that it names.
+--     Numbered, numbered e g    a happening with the policy state that it names
+--     events t             the happenings of a trail
+--     became t k h         the holder set of state k, where h is that of the state before: what the trail's update of that number makes of it
+--     Moves g t f          f has a holder set for each policy state; from state g on it changes by the trail's updates alone, each at its number
+--     TrueIn t f           every reply of the trail agrees with the holder set of the state that it names
+--     PossibleIn n g t G   the possible holder sets of state G, where the trail starts in state g: those of some such f, whatever it has in state g
+--     follows g e          the number of e fits behind state g: a reply's is not below it, an update's above it
+--     Timely g t G         the numbers of the trail lie one behind the other between the states g and G
+use mathlib.Core.Path.{_≡_}
+use mathlib.Core.Bool.{Bool, not, cond, _&&_}
+use mathlib.Core.List.{List, [], _∷_}
+use Prim.Native.Nat.{ℕ, suc, _≤_}
+use lib.Dec.{T, eqb, leb, ltb}
+use Rattle.meaning.specs.declared.Happening.{Happening}
+use Rattle.meaning.specs.Events.{agrees, after, isReply, HolderSet}
+
+pub record Numbered : Type 0 where
+  pub happening : Happening
+  pub state : ℕ
+
+abbrev pub numbered : Happening → ℕ → Numbered
+numbered e g = record { happening = e; state = g }
+
+abbrev pub events : List Numbered → List Happening
+events [] = []
+events (e ∷ t) = e .happening ∷ events t
+
+unfoldable pub became : List Numbered → ℕ → ℕ → ℕ
+became [] k h = h
+became (e ∷ t) k h = cond (not (isReply (e .happening)) && eqb (e .state) k) (after (e .happening) h) (became t k h)
+
+abbrev pub Moves : ℕ → List Numbered → (ℕ → ℕ) → Type 0
+Moves g t f = (k : ℕ) → g ≤ k → f (suc k) ≡ became t (suc k) (f k)
+
+-- an update agrees with every holder set
+abbrev pub TrueIn : List Numbered → (ℕ → ℕ) → Type 0
+TrueIn [] f = Unit {0}
+TrueIn (e ∷ t) f = T (agrees (e .happening) (f (e .state))) × TrueIn t f
+
+abbrev pub PossibleIn : ℕ → ℕ → List Numbered → ℕ → ℕ → Type 0
+PossibleIn n g t G h = (f : ℕ → ℕ) × HolderSet n (f g) × Moves g t f × TrueIn t f × (f G ≡ h)
+
+abbrev pub follows : ℕ → Numbered → Bool
+follows g e = cond (isReply (e .happening)) (leb g (e .state)) (ltb g (e .state))
+
+abbrev pub Timely : ℕ → List Numbered → ℕ → Type 0
+Timely g [] G = g ≤ G
+Timely g (e ∷ t) G = T (follows g e) × Timely (e .state) t G
