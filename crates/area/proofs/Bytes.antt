@@ -66,8 +66,9 @@ module _ (s : State) (g : GoodState s) where
       let b = pad (mostRows * bodyWords) (each body (s .rows)) in
       let n = g .most-roles in
       let u = g .most-rows in
+      let v = g .policy-small in
       ⊎-elim
-      (⊎-elim (λ e. omega arith) (⊎-elim (λ e. omega arith) (λ k. absurd k)))
+      (⊎-elim (λ e. omega arith) (⊎-elim (λ e. omega arith) (⊎-elim (λ e. omega arith) (λ k. absurd k))))
       (λ k. ⊎-elim
       (λ q. ⊎-elim (λ r. let i = mem-each content x (s .rows) r in content-fits x (i .0) (i .1) (i .2)) (λ e. omega arith) (mem-pad x (mostRows * contentWords) (each content (s .rows)) q))
       (λ q. ⊎-elim (λ r. let i = mem-each body x (s .rows) r in body-fits x (i .0) (i .1) (i .2)) (λ e. omega arith) (mem-pad x (mostRows * bodyWords) (each body (s .rows)) q))

@@ -16,10 +16,10 @@ use Rattle.words.proofs.Runs.{drop-run, allZero-split}
 use Rattle.roles.specs.Sets.{allBelow, mostRoles}
 use Rattle.roles.proofs.Tests.{T-and, T-ext}
 use Rattle.meaning.specs.Rows.{mostOpens}
-use Rattle.meaning.specs.Events.{lastPermission}
+use Rattle.meaning.specs.Events.{lastPermission, lastPolicyState}
 use Rattle.opens.specs.Opens.{placesGood, says, bodyGood}
 use Rattle.opens.proofs.OpenRules.{allOf-law}
-use Rattle.area.specs.Layout.{mostRows, areaWords, areaBytes, contentWords, bodyWords, contentsAt, bodiesAt, roleCount, rowsUsed, contents, bodies, permissionAt, countAt, deniedAt, placesAt, permissionBefore, eachBelow, rowRules, goodRowAt, goodArea}
+use Rattle.area.specs.Layout.{mostRows, areaWords, areaBytes, contentWords, bodyWords, contentsAt, bodiesAt, roleCount, rowsUsed, policyState, contents, bodies, permissionAt, countAt, deniedAt, placesAt, permissionBefore, eachBelow, rowRules, goodRowAt, goodArea}
 use Rattle.area.specs.Parts.{goodButWide, zeroRows}
 use Rattle.area.proofs.Rules.{eachBelow-law}
 
@@ -197,10 +197,14 @@ module _ (ws : List ℕ) where
   unfolding goodArea
   many-rows h k m = rw (le-leb 1 (roleCount ws) h, le-leb (roleCount ws) mostRoles k, lt-leb (rowsUsed ws) mostRows m)
 
-pub area-made : (ws : List ℕ) {rows rest : Bool} → 1 ≤ roleCount ws → roleCount ws ≤ mostRoles → rowsUsed ws ≤ mostRows → length ws ≡ areaWords
+  pub wide-policy : 1 ≤ roleCount ws → roleCount ws ≤ mostRoles → rowsUsed ws ≤ mostRows → lastPolicyState < policyState ws → false ≡ goodArea ws
+  unfolding goodArea
+  wide-policy h k m p = rw (le-leb 1 (roleCount ws) h, le-leb (roleCount ws) mostRoles k, le-leb (rowsUsed ws) mostRows m, lt-leb (policyState ws) lastPolicyState p)
+
+pub area-made : (ws : List ℕ) {rows rest : Bool} → 1 ≤ roleCount ws → roleCount ws ≤ mostRoles → rowsUsed ws ≤ mostRows → policyState ws ≤ lastPolicyState → length ws ≡ areaWords
     → rows ≡ eachBelow (rowsUsed ws) (goodRowAt ws) → rest ≡ zeroRows ws (rowsUsed ws) (mostRows - rowsUsed ws) → (rows && rest) ≡ goodArea ws
 unfolding goodArea
-area-made ws {rows} {rest} h₁ h₂ h₃ long er ez =
+area-made ws {rows} {rest} h₁ h₂ h₃ h₄ long er ez =
     rw (
       er,
       ez,
@@ -208,5 +212,6 @@ area-made ws {rows} {rest} h₁ h₂ h₃ long er ez =
       le-leb 1 (roleCount ws) h₁,
       le-leb (roleCount ws) mostRoles h₂,
       le-leb (rowsUsed ws) mostRows h₃,
+      le-leb (policyState ws) lastPolicyState h₄,
       and-true (allZero (drop (rowsUsed ws * bodyWords) (bodies ws))),
     )

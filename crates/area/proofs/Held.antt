@@ -9,7 +9,7 @@ use lib.ListN.{length, getD, take, drop, length-append, length-take, length-drop
 use lib.Seq.{take-at, drop-at, drop-drop, length-take-le}
 use Rattle.words.specs.Words.{allZero}
 use Rattle.meaning.specs.Rows.{mostOpens}
-use Rattle.area.specs.Layout.{mostRows, contentWords, bodyWords, contentsAt, bodiesAt, areaWords, roleCount, rowsUsed, contents, bodies, contentAt, bodyAt, permissionAt, countAt, deniedAt, placesAt, opensAt}
+use Rattle.area.specs.Layout.{mostRows, contentWords, bodyWords, contentsAt, bodiesAt, areaWords, roleCount, rowsUsed, policyState, contents, bodies, contentAt, bodyAt, permissionAt, countAt, deniedAt, placesAt, opensAt}
 use Rattle.area.specs.State.{Entry, State, pad, each, content, body, header, wordsOf, entryAt, entriesFrom, heldBy}
 use Rattle.area.proofs.RowLaws.{none}
 use Rattle.area.proofs.Cells.{length-pad, pad-short, pad-take, pad-front, length-each, each-read, each-cells, length-entries, entries-are}
@@ -55,6 +55,10 @@ module _ (s : State) where
   unfolding wordsOf
   roles-is = refl
 
+  pub policy-is : policyState (wordsOf s) ≡ s .policy
+  unfolding wordsOf
+  policy-is = refl
+
   pub used-is : rowsUsed (wordsOf s) ≡ length (s .rows)
   unfolding wordsOf
   used-is = refl
@@ -93,7 +97,7 @@ module _ (s : State) where
       let rows : entriesFrom (wordsOf s) 0 (rowsUsed (wordsOf s)) ≡ s .rows =
       ap (entriesFrom (wordsOf s) 0) used-is
       ∙ entries-are (wordsOf s) (s .rows) 0 (λ k u. ap (entryAt (wordsOf s)) (zero-add k) ∙ entry-is most k u (few k u)) in
-      λ t. record { roles = roles-is t; rows = rows t }
+      λ t. record { roles = roles-is t; policy = policy-is t; rows = rows t }
 
 -- ---- the state that words hold
 
@@ -151,13 +155,14 @@ module _ (ws : List ℕ) (long : length ws ≡ areaWords) (used : rowsUsed ws �
       ap (pad (mostRows * contentWords)) cs ∙ pad-take (mostRows * contentWords) (u * contentWords) (contents ws) contents-long (omega arith) zc in
       let b : pad (mostRows * bodyWords) (each body es) ≡ bodies ws =
       ap (pad (mostRows * bodyWords)) bs ∙ pad-take (mostRows * bodyWords) (u * bodyWords) (bodies ws) bodies-long (omega arith) zb in
-      ap₂ (λ (n : ℕ) (l : List ℕ). roleCount ws ∷ n ∷ l) (length-entries ws 0 u) (
+      ap₂ (λ (n : ℕ) (l : List ℕ). roleCount ws ∷ n ∷ policyState ws ∷ l) (length-entries ws 0 u) (
       ap₂ (λ (x y : List ℕ). x ++ y) c (b ∙ sym (drop-drop (mostRows * contentWords) contentsAt ws))
       ∙ take-append-drop (mostRows * contentWords) (drop contentsAt ws)
       )
       ∙ split ws long
     where
-      split : (l : List ℕ) → length l ≡ areaWords → getD l 0 0 ∷ getD l 1 0 ∷ drop contentsAt l ≡ l
+      split : (l : List ℕ) → length l ≡ areaWords → getD l 0 0 ∷ getD l 1 0 ∷ getD l 2 0 ∷ drop contentsAt l ≡ l
       split [] e = absurd (let z : ⊥ = omega arith in z)
       split (x ∷ []) e = absurd (let z : ⊥ = omega arith in z)
-      split (x ∷ y ∷ l) e = refl
+      split (x ∷ y ∷ []) e = absurd (let z : ⊥ = omega arith in z)
+      split (x ∷ y ∷ z ∷ l) e = refl

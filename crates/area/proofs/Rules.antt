@@ -13,14 +13,14 @@ use Rattle.roles.specs.Sets.{allBelow, mostRoles}
 use Rattle.roles.proofs.Tests.{T-and}
 use Rattle.roles.proofs.Laws.{leb-allBelow}
 use Rattle.meaning.specs.Rows.{mostOpens}
-use Rattle.meaning.specs.Events.{lastPermission}
+use Rattle.meaning.specs.Events.{lastPermission, lastPolicyState}
 use Rattle.opens.specs.Opens.{opensGood, placesGood}
 use Rattle.opens.proofs.OpenRules.{allOf-law, opensGood-law}
-use Rattle.area.specs.Layout.{mostRows, contentWords, bodyWords, areaWords, roleCount, rowsUsed, contents, bodies, permissionAt, countAt, deniedAt, placesAt, opensAt, permissionBefore, eachBelow, rowRules, goodRowAt, areaRules, goodArea}
+use Rattle.area.specs.Layout.{mostRows, contentWords, bodyWords, areaWords, roleCount, rowsUsed, policyState, contents, bodies, permissionAt, countAt, deniedAt, placesAt, opensAt, permissionBefore, eachBelow, rowRules, goodRowAt, areaRules, goodArea}
 use Rattle.area.specs.State.{Entry, State, GoodRow, GoodRows, GoodState, pad, each, content, body, wordsOf, entryAt, entriesFrom, heldBy}
 use Rattle.area.proofs.RowLaws.{none, GoodEntry, row-good, rows-ascending}
 use Rattle.area.proofs.Cells.{pad-behind, length-each, length-entries}
-use Rattle.area.proofs.Held.{content-wide, body-wide, length-wordsOf, contents-is, bodies-is, roles-is, used-is, content-is, body-is, entry-is, held-words, opens-long, words-held}
+use Rattle.area.proofs.Held.{content-wide, body-wide, length-wordsOf, contents-is, bodies-is, roles-is, policy-is, used-is, content-is, body-is, entry-is, held-words, opens-long, words-held}
 
 pub eachBelow-law : (n : ℕ) (p : ℕ → Bool) → T (eachBelow n p) ↔ ((k : ℕ) → k < n → T (p k))
 eachBelow-law zero p = ((λ h k u. absurd (let z : ⊥ = omega arith in z)), (λ f. tt))
@@ -107,6 +107,7 @@ pub record AreaFacts (ws : List ℕ) : Type 0 where
   pub some-roles : 1 ≤ roleCount ws
   pub most-roles : roleCount ws ≤ mostRoles
   pub used : rowsUsed ws ≤ mostRows
+  pub policy : policyState ws ≤ lastPolicyState
   pub rows : (i : ℕ) → i < rowsUsed ws → RowFacts ws i
   pub no-contents : T (allZero (drop (rowsUsed ws * contentWords) (contents ws)))
   pub no-bodies : T (allZero (drop (rowsUsed ws * bodyWords) (bodies ws)))
@@ -121,9 +122,10 @@ area-law ws long = (
         some-roles = leb→le 1 (roleCount ws) (r .0);
         most-roles = leb→le (roleCount ws) mostRoles (r .1 .0);
         used = used;
-        rows = λ i h. row-law ws long used i h .0 (eachBelow-law (rowsUsed ws) (goodRowAt ws) .0 (r .1 .1 .1 .0) i h);
-        no-contents = r .1 .1 .1 .1 .0;
-        no-bodies = r .1 .1 .1 .1 .1 .0;
+        policy = leb→le (policyState ws) lastPolicyState (r .1 .1 .1 .0);
+        rows = λ i h. row-law ws long used i h .0 (eachBelow-law (rowsUsed ws) (goodRowAt ws) .0 (r .1 .1 .1 .1 .0) i h);
+        no-contents = r .1 .1 .1 .1 .1 .0;
+        no-bodies = r .1 .1 .1 .1 .1 .1 .0;
       }),
   λ f. allOf-law (areaRules ws) .1 (
     le→leb 1 (roleCount ws) (f .some-roles),
@@ -132,8 +134,11 @@ area-law ws long = (
       (
         le→leb (rowsUsed ws) mostRows (f .used),
         (
-          eachBelow-law (rowsUsed ws) (goodRowAt ws) .1 (λ i h. row-law ws long (f .used) i h .1 (f .rows i h)),
-          (f .no-contents, (f .no-bodies, tt)),
+          le→leb (policyState ws) lastPolicyState (f .policy),
+          (
+            eachBelow-law (rowsUsed ws) (goodRowAt ws) .1 (λ i h. row-law ws long (f .used) i h .1 (f .rows i h)),
+            (f .no-contents, (f .no-bodies, tt)),
+          ),
         ),
       ),
     ),
@@ -157,6 +162,7 @@ area-holds ws long t =
         some-roles = f .some-roles;
         most-roles = f .most-roles;
         most-rows = omega (arith, length-entries ws 0 (rowsUsed ws), f .used);
+        policy-small = f .policy;
         good-rows = rows-good ws 0 (rowsUsed ws) (λ j u v. f .rows j (omega arith));
       },
       words-held ws long (f .used) (λ i h. (f .rows i h .few, f .rows i h .behind)) (f .no-contents) (f .no-bodies),
@@ -209,6 +215,7 @@ module _ (s : State) (g : GoodState s) where
         some-roles = subst⁻¹ (λ (n : ℕ). 1 ≤ n) (roles-is s) (g .some-roles);
         most-roles = subst⁻¹ (λ (n : ℕ). n ≤ mostRoles) (roles-is s) (g .most-roles);
         used = subst⁻¹ (λ (n : ℕ). n ≤ mostRows) (used-is s) few;
+        policy = subst⁻¹ (λ (n : ℕ). n ≤ lastPolicyState) (policy-is s) (g .policy-small);
         rows = λ i h. row-is i (subst (λ (n : ℕ). i < n) (used-is s) h);
         no-contents = zeros-behind (mostRows * contentWords) (each content (s .rows)) (contents (wordsOf s)) (rowsUsed (wordsOf s) * contentWords)
             (ap (λ (n : ℕ). n * contentWords) (used-is s) ∙ sym cs) (contents-is s) (omega (arith, cs));

@@ -37,11 +37,12 @@ full-area =
     let w : Row = record { denied = 0; opens = singles 0 mostOpens } in
     let len : length (singles 0 mostOpens) ≡ mostOpens = length-singles 0 mostOpens in
     let g : GoodRow 16 w = record { good = singles-good 16 mostOpens (omega arith); says = subst (λ (n : ℕ). T (not (eqb n 0))) (sym len) tt; few = omega arith } in (
-      record { roles = 16; rows = repeated w 1 mostRows },
+      record { roles = 16; policy = 0; rows = repeated w 1 mostRows },
       record {
         some-roles = omega arith;
         most-roles = omega arith;
         most-rows = omega (arith, length-repeated w 1 mostRows);
+        policy-small = omega arith;
         good-rows = repeated-good 16 w g 0 mostRows (omega arith);
       },
       length-repeated w 1 mostRows,

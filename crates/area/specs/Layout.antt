@@ -3,21 +3,22 @@
 --
 --     word 0      role count n
 --     word 1      rows used
---     word 2      +------------+-----------------+
+--     word 2      policy state
+--     word 3      +------------+-----------------+
 --                 | permission | number of opens |    contents: 128 entries, the used ones first,
 --                 | permission | number of opens |    permissions strictly ascending
 --                 | ..         | ..              |
---     word 258    +------------+-----------------+-----------------------+
+--     word 259    +------------+-----------------+-----------------------+
 --                 | denied set | open sets in the first of 15 places     |    bodies: 128, entry i belongs to body i
 --                 | denied set | open sets in the first of 15 places     |
 --                 | ..         | ..                                      |
---     word 2306   +------------+-----------------------------------------+    everything unused is zero
+--     word 2307   +------------+-----------------------------------------+    everything unused is zero
 --
 --     mostRows, areaWords, areaBytes    how many rows, words and bytes there are
---     roleCountAt, rowsUsedAt           where the header's words stand
+--     roleCountAt, rowsUsedAt, policyStateAt    where the header's words stand
 --     contentsAt, bodiesAt              where the two parts behind it start
 --     contentWords, bodyWords           how many words an entry of the contents and a body have
---     roleCount, rowsUsed               the header's words
+--     roleCount, rowsUsed, policyState  the header's words
 --     contents, bodies                  the two parts behind it
 --     contentAt, bodyAt                 contents entry i, body i
 --     permissionAt, countAt             the two words of an entry
@@ -33,7 +34,7 @@ use lib.Dec.{eqb, ltb, leb}
 use lib.ListN.{length, getD, take, drop}
 use Rattle.words.specs.Words.{words, allZero}
 use Rattle.roles.specs.Sets.{mostRoles, allBelow}
-use Rattle.meaning.specs.Events.{lastPermission}
+use Rattle.meaning.specs.Events.{lastPermission, lastPolicyState}
 use Rattle.meaning.specs.Rows.{mostOpens}
 use Rattle.opens.specs.Opens.{allOf, placesGood, says}
 
@@ -48,6 +49,9 @@ roleCountAt = 0
 abbrev pub rowsUsedAt : ℕ
 rowsUsedAt = 1
 
+abbrev pub policyStateAt : ℕ
+policyStateAt = 2
+
 abbrev pub contentWords : ℕ
 contentWords = 2
 
@@ -55,7 +59,7 @@ abbrev pub bodyWords : ℕ
 bodyWords = 1 + mostOpens
 
 abbrev pub contentsAt : ℕ
-contentsAt = 2
+contentsAt = 3
 
 abbrev pub bodiesAt : ℕ
 bodiesAt = contentsAt + mostRows * contentWords
@@ -73,6 +77,9 @@ roleCount ws = getD ws roleCountAt 0
 
 abbrev pub rowsUsed : List ℕ → ℕ
 rowsUsed ws = getD ws rowsUsedAt 0
+
+abbrev pub policyState : List ℕ → ℕ
+policyState ws = getD ws policyStateAt 0
 
 abbrev pub contents : List ℕ → List ℕ
 contents ws = take (mostRows * contentWords) (drop contentsAt ws)
@@ -128,12 +135,13 @@ rowRules ws i =
 unfoldable pub goodRowAt : List ℕ → ℕ → Bool
 goodRowAt ws i = allOf (rowRules ws i)
 
--- 1 to 64 roles; at most 128 rows; each used row good; nothing behind them
+-- 1 to 64 roles; at most 128 rows; a policy state of 32 bits; each used row good; nothing behind them
 abbrev pub areaRules : List ℕ → List Bool
 areaRules ws =
     leb 1 (roleCount ws)
     ∷ leb (roleCount ws) mostRoles
     ∷ leb (rowsUsed ws) mostRows
+    ∷ leb (policyState ws) lastPolicyState
     ∷ eachBelow (rowsUsed ws) (goodRowAt ws)
     ∷ allZero (drop (rowsUsed ws * contentWords) (contents ws))
     ∷ allZero (drop (rowsUsed ws * bodyWords) (bodies ws))

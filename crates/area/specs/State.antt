@@ -1,6 +1,7 @@
--- What an area holds: the role count and the rows by ascending permission; and the bytes that it is written as.
---     Entry, entry, State  a permission with its row; the role count with the rows
---     opened n, withRows s es    the state just after an opening with n roles; s with other rows
+-- What an area holds: the role count, the policy state and the rows by ascending permission; and the bytes that it is written as.
+--     Entry, entry, State  a permission with its row; the role count and the policy state with the rows
+--     opened n g           the state just after an opening with n roles in the policy state g
+--     withRows s es, inPolicy g s    s with other rows; s in the policy state g
 --     isBlank w            the row says nothing
 --     GoodRow, GoodRows, GoodState    the rules of a good area, as rules of what it holds
 --     content, body, header           the words of an entry of the contents, of a body, of the header
@@ -21,9 +22,9 @@ use lib.Dec.{T, eqb, ltb}
 use lib.ListN.{length, take, drop, replicate}
 use Rattle.words.specs.Words.{words, bytesOf}
 use Rattle.roles.specs.Sets.{mostRoles}
-use Rattle.meaning.specs.Events.{lastPermission}
+use Rattle.meaning.specs.Events.{lastPermission, lastPolicyState}
 use Rattle.meaning.specs.Rows.{Row, blank, Good, mostOpens}
-use Rattle.area.specs.Layout.{mostRows, contentWords, bodyWords, roleCount, rowsUsed, permissionAt, deniedAt, opensAt}
+use Rattle.area.specs.Layout.{mostRows, contentWords, bodyWords, roleCount, rowsUsed, policyState, permissionAt, deniedAt, opensAt}
 
 pub record Entry : Type 0 where
   pub permission : ℕ
@@ -31,16 +32,20 @@ pub record Entry : Type 0 where
 
 pub record State : Type 0 where
   pub roles : ℕ
+  pub policy : ℕ
   pub rows : List Entry
 
 abbrev pub entry : ℕ → Row → Entry
 entry p w = record { permission = p; row = w }
 
-abbrev pub opened : ℕ → State
-opened n = record { roles = n; rows = [] }
+abbrev pub opened : ℕ → ℕ → State
+opened n g = record { roles = n; policy = g; rows = [] }
 
 abbrev pub withRows : State → List Entry → State
-withRows s es = record { roles = s .roles; rows = es }
+withRows s es = record { roles = s .roles; policy = s .policy; rows = es }
+
+abbrev pub inPolicy : ℕ → State → State
+inPolicy g s = record { roles = s .roles; policy = g; rows = s .rows }
 
 -- ---- a good state
 
@@ -62,6 +67,7 @@ pub record GoodState (s : State) : Type 0 where
   pub some-roles : 1 ≤ s .roles
   pub most-roles : s .roles ≤ mostRoles
   pub most-rows : length (s .rows) ≤ mostRows
+  pub policy-small : s .policy ≤ lastPolicyState
   pub good-rows : GoodRows (s .roles) 0 (s .rows)
 
 -- ---- the bytes of a state
@@ -82,7 +88,7 @@ abbrev pub body : Entry → List ℕ
 body e = e .row .denied ∷ pad mostOpens (e .row .opens)
 
 abbrev pub header : State → List ℕ
-header s = s .roles ∷ length (s .rows) ∷ []
+header s = s .roles ∷ length (s .rows) ∷ s .policy ∷ []
 
 unfoldable pub wordsOf : State → List ℕ
 wordsOf s = header s ++ (pad (mostRows * contentWords) (each content (s .rows)) ++ pad (mostRows * bodyWords) (each body (s .rows)))
@@ -101,7 +107,7 @@ entriesFrom ws i zero = []
 entriesFrom ws i (suc n) = entryAt ws i ∷ entriesFrom ws (suc i) n
 
 unfoldable pub heldBy : List ℕ → State
-heldBy ws = record { roles = roleCount ws; rows = entriesFrom ws 0 (rowsUsed ws) }
+heldBy ws = record { roles = roleCount ws; policy = policyState ws; rows = entriesFrom ws 0 (rowsUsed ws) }
 
 unfoldable pub stateOf : List ℕ → State
 stateOf l = heldBy (words l)

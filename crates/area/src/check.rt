@@ -5,9 +5,11 @@ use crate::BODY_WORDS;
 use crate::CONTENT_WORDS;
 use crate::CONTENTS_AT;
 use crate::MOST_ROWS;
+use crate::POLICY_STATE_AT;
 use crate::ROLE_COUNT_AT;
 use crate::ROWS_USED_AT;
 use meaning::LAST_PERMISSION;
+use meaning::LAST_POLICY_STATE;
 use meaning::MOST_OPENS;
 use opens::places_few;
 use opens::places_many;
@@ -108,6 +110,7 @@ pub fn check(a: &[u8]) -> bool
     }
     let n = get_word(a, ROLE_COUNT_AT);
     let used = get_word(a, ROWS_USED_AT);
+    let policy = get_word(a, POLICY_STATE_AT);
     if n < 1 {
         return false;
     }
@@ -115,6 +118,9 @@ pub fn check(a: &[u8]) -> bool
         return false;
     }
     if (MOST_ROWS as u64) < used {
+        return false;
+    }
+    if LAST_POLICY_STATE < policy {
         return false;
     }
     let rows = used as usize;

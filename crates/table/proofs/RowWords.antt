@@ -8,7 +8,7 @@ use lib.ListN.{length, getD, take, drop, replicate, replicate-append-replicate}
 use lib.Seq.{take-append-add}
 use Rattle.words.specs.Words.{words}
 use Rattle.meaning.specs.Rows.{mostOpens}
-use Rattle.area.specs.Layout.{mostRows, roleCountAt, rowsUsedAt, contentWords, bodyWords, contentsAt, bodiesAt, rowsUsed, contentAt, bodyAt, goodBytes}
+use Rattle.area.specs.Layout.{mostRows, roleCountAt, rowsUsedAt, policyStateAt, contentWords, bodyWords, contentsAt, bodiesAt, rowsUsed, contentAt, bodyAt, goodBytes}
 use Rattle.area.specs.State.{pad, content, body, wordsOf, heldBy, stateOf}
 use Rattle.area.proofs.Cells.{take-zeros, pad-short}
 use Rattle.area.proofs.Rules.{few-opens}
@@ -29,6 +29,10 @@ sound l t = record { good = t; size = good-length l t; few = good-state l t .mos
 pub roles-read : (l : List ℕ) → getD (words l) roleCountAt 0 ≡ stateOf l .roles
 unfolding stateOf heldBy
 roles-read l = refl
+
+pub policy-read : (l : List ℕ) → getD (words l) policyStateAt 0 ≡ stateOf l .policy
+unfolding stateOf heldBy
+policy-read l = refl
 
 module _ (l : List ℕ) (s : Sound l) where
   is : words l ≡ wordsOf (stateOf l)
