@@ -2,7 +2,7 @@
 use mathlib.Core.Path.{_≡_, refl, sym, ap, _∙_}
 use mathlib.Core.Bool.{Bool, true, false, cond}
 use mathlib.Core.List.{List, [], _∷_, _++_, append-nil}
-use Prim.Native.Nat.{ℕ, _+_, _^_, _≤_, _<_}
+use Prim.Native.Nat.{ℕ, _+_, _-_, _^_, _≤_, _<_}
 use native.Mathlib.Omega.{arith}
 use lib.ListN.{length, drop, drop-of-length-le}
 use lib.Seq.{drop-drop}
@@ -11,38 +11,52 @@ use Rattle.roles.specs.Sets.{lastRole, mostRoles}
 use Rattle.meaning.specs.Events.{lastPermission}
 use Rattle.text.specs.Ascii.{space}
 use Rattle.text.specs.Number.{numberText, Got, found, bad, isDigit, digitNext, nextIs, readNumber}
-use Rattle.text.specs.Set.{setText, readSet}
+use Rattle.text.specs.Set.{setText, readSet, Ends}
 use Rattle.text.specs.Field.{numberField, setField}
 use Rattle.text.specs.declared.NumberField.the-variants as number
 use Rattle.text.specs.declared.SetField.the-variants as set
 use Rattle.text.proofs.NumberLaws.{next-is, bad≢found, number-nothing, number-back, number-only}
 use Rattle.text.proofs.SetLaws.{set-nothing, set-back, set-only}
 use Rattle.text.proofs.Walks.{next-cons, number-read, set-read}
-use Rattle.requests.specs.Fields.{fieldOf, got, ended, lastNumber, lastSet, permissionSet, permissionRole}
+use Rattle.requests.specs.Fields.{fieldOf, got, ended, numberThen, setThen, lastNumber, permissionSet, permissionRole}
 use Rattle.requests.specs.Request.{spaced, spacedSet}
 
 -- ---- what was printed reads back
 
+-- at the end of a line, and before the space of the next field
+pub ends-nothing : Ends []
+unfolding digitNext nextIs
+ends-nothing = record { digit = refl; comma = refl }
+
+pub ends-space : (t : List ℕ) → Ends (space ∷ t)
+unfolding digitNext isDigit nextIs
+ends-space t = record { digit = refl; comma = refl }
+
 module _ {A : Type 0} (other : A) where
+  pub number-then-back : (k : ℕ → List ℕ → A) (limit v : ℕ) (u : List ℕ) → v ≤ limit → Ends u → numberThen other k limit (spaced v ++ u) ≡ k v u
+  unfolding numberThen fieldOf nextIs
+  number-then-back k limit v u h e = ap (got other k) (number-back limit v u h (e .digit))
+
+  set-then-back : (k : RoleSet → List ℕ → A) (s : RoleSet) (u : List ℕ) → s .bits < 2 ^ mostRoles → Ends u → setThen other k (spacedSet s ++ u) ≡ k s u
+  unfolding setThen fieldOf nextIs
+  set-then-back k s u h e = ap (got other (λ s u. k (record { bits = s }) u)) (set-back (s .bits) u h e)
+
   pub number-last-back : (k : ℕ → A) (limit v : ℕ) → v ≤ limit → lastNumber other k limit (spaced v) ≡ k v
-  unfolding lastNumber fieldOf nextIs digitNext
+  unfolding lastNumber
   number-last-back k limit v h =
-      ap (got other (λ v u. ended other (k v) u)) (ap (readNumber limit) (sym (append-nil (numberText v))) ∙ number-back limit v [] h refl)
+      ap (numberThen other (λ v u. ended other (k v) u) limit) (sym (append-nil (spaced v))) ∙ number-then-back (λ v u. ended other (k v) u) limit v [] h ends-nothing
 
-  pub set-last-back : (k : RoleSet → A) (s : RoleSet) → s .bits < 2 ^ mostRoles → lastSet other k (spacedSet s) ≡ k s
-  unfolding lastSet fieldOf nextIs digitNext
-  set-last-back k s h =
-      ap (got other (λ s u. ended other (k (record { bits = s })) u)) (ap readSet (sym (append-nil (setText (s .bits)))) ∙ set-back (s .bits) [] h (record { digit = refl; comma = refl }))
+  pub permission-set-back : (k : ℕ → RoleSet → List ℕ → A) (p : ℕ) (s : RoleSet) (u : List ℕ) → p ≤ lastPermission → s .bits < 2 ^ mostRoles → Ends u
+      → permissionSet other k (spaced p ++ (spacedSet s ++ u)) ≡ k p s u
+  unfolding permissionSet
+  permission-set-back k p s u h b e =
+      number-then-back (λ p u. setThen other (k p) u) lastPermission p (spacedSet s ++ u) h (ends-space (setText (s .bits) ++ u)) ∙ set-then-back (k p) s u b e
 
-  pub permission-set-back : (k : ℕ → RoleSet → A) (p : ℕ) (s : RoleSet) → p ≤ lastPermission → s .bits < 2 ^ mostRoles
-      → permissionSet other k (spaced p ++ spacedSet s) ≡ k p s
-  unfolding permissionSet fieldOf nextIs digitNext isDigit
-  permission-set-back k p s h b = ap (got other (λ p u. lastSet other (k p) u)) (number-back lastPermission p (spacedSet s) h refl) ∙ set-last-back (k p) s b
-
-  pub permission-role-back : (k : ℕ → ℕ → A) (p r : ℕ) → p ≤ lastPermission → r ≤ lastRole → permissionRole other k (spaced p ++ spaced r) ≡ k p r
-  unfolding permissionRole fieldOf nextIs digitNext isDigit
-  permission-role-back k p r h b =
-      ap (got other (λ p u. lastNumber other (k p) lastRole u)) (number-back lastPermission p (spaced r) h refl) ∙ number-last-back (k p) lastRole r b
+  pub permission-role-back : (k : ℕ → ℕ → List ℕ → A) (p r : ℕ) (u : List ℕ) → p ≤ lastPermission → r ≤ lastRole → Ends u
+      → permissionRole other k (spaced p ++ (spaced r ++ u)) ≡ k p r u
+  unfolding permissionRole
+  permission-role-back k p r u h b e =
+      number-then-back (λ p u. numberThen other (k p) lastRole u) lastPermission p (spaced r ++ u) h (ends-space (numberText r ++ u)) ∙ number-then-back (k p) lastRole r u b e
 
 -- ---- only what was printed is read
 
@@ -55,16 +69,6 @@ field-spaced read t v u n e = go (nextIs space t) refl e
     go true q r = next-is space t q
     go false q r = absurd (bad≢found (sym n ∙ r))
 
-spaced-number-only : (limit : ℕ) (t : List ℕ) (v : ℕ) (u : List ℕ) → readNumber limit (fieldOf t) ≡ found v u → (t ≡ spaced v ++ u) × (v ≤ limit)
-spaced-number-only limit t v u e =
-    let p = number-only limit (fieldOf t) v u e in
-    (field-spaced (readNumber limit) t v u (number-nothing limit) e ∙ ap {B = List ℕ} (λ x. space ∷ x) (p .same), p .small)
-
-spaced-set-only : (t : List ℕ) (v : ℕ) (u : List ℕ) → readSet (fieldOf t) ≡ found v u → (t ≡ (space ∷ setText v) ++ u) × (v < 2 ^ mostRoles)
-spaced-set-only t v u e =
-    let p = set-only (fieldOf t) v u e in
-    (field-spaced readSet t v u set-nothing e ∙ ap {B = List ℕ} (λ x. space ∷ x) (p .0), p .1)
-
 module _ {A : Type 0} (other : A) (P : A → Type 0) (none : P other) where
   got-only : (k : ℕ → List ℕ → A) (g : Got) → ((v : ℕ) (u : List ℕ) → g ≡ found v u → P (k v u)) → P (got other k g)
   got-only k (found v u) f = f v u refl
@@ -74,31 +78,34 @@ module _ {A : Type 0} (other : A) (P : A → Type 0) (none : P other) where
   ended-only a [] f = f refl
   ended-only a (c ∷ t) f = none
 
+  pub number-then-only : (k : ℕ → List ℕ → A) (limit : ℕ) (t : List ℕ) → ((v : ℕ) (u : List ℕ) → t ≡ spaced v ++ u → v ≤ limit → P (k v u)) → P (numberThen other k limit t)
+  unfolding numberThen
+  number-then-only k limit t f = got-only k (readNumber limit (fieldOf t)) (λ v u e.
+      let p = number-only limit (fieldOf t) v u e in
+      f v u (field-spaced (readNumber limit) t v u (number-nothing limit) e ∙ ap {B = List ℕ} (λ x. space ∷ x) (p .same)) (p .small))
+
+  set-then-only : (k : RoleSet → List ℕ → A) (t : List ℕ) → ((s : RoleSet) (u : List ℕ) → t ≡ spacedSet s ++ u → s .bits < 2 ^ mostRoles → P (k s u)) → P (setThen other k t)
+  unfolding setThen
+  set-then-only k t f = got-only (λ s u. k (record { bits = s }) u) (readSet (fieldOf t)) (λ s u e.
+      let p = set-only (fieldOf t) s u e in
+      f (record { bits = s }) u (field-spaced readSet t s u set-nothing e ∙ ap {B = List ℕ} (λ x. space ∷ x) (p .0)) (p .1))
+
   pub number-last-only : (k : ℕ → A) (limit : ℕ) (t : List ℕ) → ((v : ℕ) → t ≡ spaced v → v ≤ limit → P (k v)) → P (lastNumber other k limit t)
   unfolding lastNumber
-  number-last-only k limit t f = got-only (λ v u. ended other (k v) u) (readNumber limit (fieldOf t)) (λ v u e.
-      let p = spaced-number-only limit t v u e in
-      ended-only (k v) u (λ n. f v (p .0 ∙ rw n (append-nil (spaced v))) (p .1)))
+  number-last-only k limit t f =
+      number-then-only (λ v u. ended other (k v) u) limit t (λ v u e h. ended-only (k v) u (λ n. f v (e ∙ rw n (append-nil (spaced v))) h))
 
-  pub set-last-only : (k : RoleSet → A) (t : List ℕ) → ((s : RoleSet) → t ≡ spacedSet s → s .bits < 2 ^ mostRoles → P (k s)) → P (lastSet other k t)
-  unfolding lastSet
-  set-last-only k t f = got-only (λ s u. ended other (k (record { bits = s })) u) (readSet (fieldOf t)) (λ s u e.
-      let p = spaced-set-only t s u e in
-      ended-only (k (record { bits = s })) u (λ n. f (record { bits = s }) (p .0 ∙ rw n (append-nil (space ∷ setText s))) (p .1)))
-
-  pub permission-set-only : (k : ℕ → RoleSet → A) (t : List ℕ)
-      → ((p : ℕ) (s : RoleSet) → t ≡ spaced p ++ spacedSet s → p ≤ lastPermission → s .bits < 2 ^ mostRoles → P (k p s)) → P (permissionSet other k t)
+  pub permission-set-only : (k : ℕ → RoleSet → List ℕ → A) (t : List ℕ)
+      → ((p : ℕ) (s : RoleSet) (u : List ℕ) → t ≡ spaced p ++ (spacedSet s ++ u) → p ≤ lastPermission → s .bits < 2 ^ mostRoles → P (k p s u)) → P (permissionSet other k t)
   unfolding permissionSet
-  permission-set-only k t f = got-only (λ p u. lastSet other (k p) u) (readNumber lastPermission (fieldOf t)) (λ p u e.
-      let q = spaced-number-only lastPermission t p u e in
-      set-last-only (k p) u (λ s n b. f p s (q .0 ∙ ap (λ (x : List ℕ). spaced p ++ x) n) (q .1) b))
+  permission-set-only k t f = number-then-only (λ p u. setThen other (k p) u) lastPermission t (λ p w e h.
+      set-then-only (k p) w (λ s u n b. f p s u (e ∙ ap (λ (x : List ℕ). spaced p ++ x) n) h b))
 
-  pub permission-role-only : (k : ℕ → ℕ → A) (t : List ℕ)
-      → ((p r : ℕ) → t ≡ spaced p ++ spaced r → p ≤ lastPermission → r ≤ lastRole → P (k p r)) → P (permissionRole other k t)
+  pub permission-role-only : (k : ℕ → ℕ → List ℕ → A) (t : List ℕ)
+      → ((p r : ℕ) (u : List ℕ) → t ≡ spaced p ++ (spaced r ++ u) → p ≤ lastPermission → r ≤ lastRole → P (k p r u)) → P (permissionRole other k t)
   unfolding permissionRole
-  permission-role-only k t f = got-only (λ p u. lastNumber other (k p) lastRole u) (readNumber lastPermission (fieldOf t)) (λ p u e.
-      let q = spaced-number-only lastPermission t p u e in
-      number-last-only (k p) lastRole u (λ r n b. f p r (q .0 ∙ ap (λ (x : List ℕ). spaced p ++ x) n) (q .1) b))
+  permission-role-only k t f = number-then-only (λ p u. numberThen other (k p) lastRole u) lastPermission t (λ p w e h.
+      number-then-only (k p) lastRole w (λ r u n b. f p r u (e ∙ ap (λ (x : List ℕ). spaced p ++ x) n) h b))
 
 -- ---- how the code goes along a line
 
@@ -120,20 +127,29 @@ module _ (line : List ℕ) (at : ℕ) where
 
   -- what the code's answers say of the bytes
   pub number-spaced : (limit v n : ℕ) → number.Read v n ≡ numberField line (readNumber limit (fieldOf (drop at line)))
-      → (readNumber limit (fieldOf (drop at line)) ≡ found v (drop n line)) × (v ≤ limit) × (n ≤ length line)
+      → (readNumber limit (fieldOf (drop at line)) ≡ found v (drop n line)) × (v ≤ limit)
   number-spaced limit v n q =
       let p = field-place in
       let e : drop (p .0) line ≡ fieldOf (drop at line) = p .1 in
       let t = number-read limit line (p .0) v n (rw e q) in
-      (rw (← e) (t .reads), t .small, t .inside)
+      (rw (← e) (t .reads), t .small)
 
-  pub set-spaced : (s : RoleSet) (n : ℕ) → set.Read s n ≡ setField line (readSet (fieldOf (drop at line)))
-      → (readSet (fieldOf (drop at line)) ≡ found (s .bits) (drop n line)) × (n ≤ length line)
+  set-spaced : (s : RoleSet) (n : ℕ) → set.Read s n ≡ setField line (readSet (fieldOf (drop at line))) → readSet (fieldOf (drop at line)) ≡ found (s .bits) (drop n line)
   set-spaced s n q =
       let p = field-place in
       let e : drop (p .0) line ≡ fieldOf (drop at line) = p .1 in
-      let t = set-read line (p .0) s n (rw e q) in
-      (rw (← e) (t .reads), t .inside)
+      rw (← e) (set-read line (p .0) s n (rw e q) .reads)
+
+  -- the bytes behind a field start at their place
+  pub number-behind : (limit v : ℕ) (u : List ℕ) → readNumber limit (fieldOf (drop at line)) ≡ found v u → drop (length line - length u) line ≡ u
+  number-behind limit v u e =
+      let q : found v (drop (length line - length u) line) ≡ found v u = sym (number-spaced limit v (length line - length u) (sym (ap (numberField line) e)) .0) ∙ e in
+      cc
+
+  set-behind : (s : ℕ) (u : List ℕ) → readSet (fieldOf (drop at line)) ≡ found s u → drop (length line - length u) line ≡ u
+  set-behind s u e =
+      let q : found s (drop (length line - length u) line) ≡ found s u = sym (set-spaced (record { bits = s }) (length line - length u) (sym (ap (setField line) e))) ∙ e in
+      cc
 
 module _ {A : Type 0} (other a : A) (line : List ℕ) (n : ℕ) where
   pub ended-there : length line ≤ n → a ≡ ended other a (drop n line)
@@ -142,46 +158,42 @@ module _ {A : Type 0} (other a : A) (line : List ℕ) (n : ℕ) where
   pub ended-later : n < length line → other ≡ ended other a (drop n line)
   ended-later h = sym (ap (ended other a) (next-cons line n h))
 
-module _ {A : Type 0} (other : A) (t : List ℕ) (g : Got) where
-  pub number-is : (k : ℕ → A) (limit : ℕ) → readNumber limit (fieldOf t) ≡ g → got other (λ v u. ended other (k v) u) g ≡ lastNumber other k limit t
-  unfolding lastNumber
-  number-is k limit e = rw e refl
-
-  pub set-is : (k : RoleSet → A) → readSet (fieldOf t) ≡ g → got other (λ s u. ended other (k (record { bits = s })) u) g ≡ lastSet other k t
-  unfolding lastSet
-  set-is k e = rw e refl
-
-  pub permission-set-is : (k : ℕ → RoleSet → A) → readNumber lastPermission (fieldOf t) ≡ g → got other (λ p u. lastSet other (k p) u) g ≡ permissionSet other k t
-  unfolding permissionSet
-  permission-set-is k e = rw e refl
-
-  pub permission-role-is : (k : ℕ → ℕ → A) → readNumber lastPermission (fieldOf t) ≡ g → got other (λ p u. lastNumber other (k p) lastRole u) g ≡ permissionRole other k t
-  unfolding permissionRole
-  permission-role-is k e = rw e refl
-
 -- ---- what is made of fields, made of the other thing that was made of them
 
 module _ {A B : Type 0} (f : A → B) (other : A) where
-  got-map : (k : ℕ → List ℕ → A) (l : ℕ → List ℕ → B) (g : Got) → ((v : ℕ) (u : List ℕ) → f (k v u) ≡ l v u) → f (got other k g) ≡ got (f other) l g
-  got-map k l (found v u) e = e v u
+  got-map : (k : ℕ → List ℕ → A) (l : ℕ → List ℕ → B) (g : Got) → ((v : ℕ) (u : List ℕ) → g ≡ found v u → f (k v u) ≡ l v u) → f (got other k g) ≡ got (f other) l g
+  got-map k l (found v u) e = e v u refl
   got-map k l bad e = refl
 
   ended-map : (a : A) (t : List ℕ) → f (ended other a t) ≡ ended (f other) (f a) t
   ended-map a [] = refl
   ended-map a (c ∷ t) = refl
 
-  pub number-map : (k : ℕ → A) (limit : ℕ) (t : List ℕ) → f (lastNumber other k limit t) ≡ lastNumber (f other) (λ v. f (k v)) limit t
+  pub number-then-map : (k : ℕ → List ℕ → A) (l : ℕ → List ℕ → B) (limit : ℕ) (t : List ℕ)
+      → ((v : ℕ) (u : List ℕ) → readNumber limit (fieldOf t) ≡ found v u → f (k v u) ≡ l v u) → f (numberThen other k limit t) ≡ numberThen (f other) l limit t
+  unfolding numberThen
+  number-then-map k l limit t e = got-map k l (readNumber limit (fieldOf t)) e
+
+  set-then-map : (k : RoleSet → List ℕ → A) (l : RoleSet → List ℕ → B) (t : List ℕ)
+      → ((s : ℕ) (u : List ℕ) → readSet (fieldOf t) ≡ found s u → f (k (record { bits = s }) u) ≡ l (record { bits = s }) u) → f (setThen other k t) ≡ setThen (f other) l t
+  unfolding setThen
+  set-then-map k l t e = got-map _ _ (readSet (fieldOf t)) e
+
+  pub number-last-map : (k : ℕ → A) (limit : ℕ) (t : List ℕ) → f (lastNumber other k limit t) ≡ lastNumber (f other) (λ v. f (k v)) limit t
   unfolding lastNumber
-  number-map k limit t = got-map _ _ (readNumber limit (fieldOf t)) (λ v u. ended-map (k v) u)
+  number-last-map k limit t = number-then-map _ _ limit t (λ v u e. ended-map (k v) u)
 
-  set-map : (k : RoleSet → A) (t : List ℕ) → f (lastSet other k t) ≡ lastSet (f other) (λ s. f (k s)) t
-  unfolding lastSet
-  set-map k t = got-map _ _ (readSet (fieldOf t)) (λ s u. ended-map (k (record { bits = s })) u)
+  module _ (line : List ℕ) (at : ℕ) where
+    pub permission-set-map : (k : ℕ → RoleSet → List ℕ → A) (l : ℕ → RoleSet → List ℕ → B)
+        → ((p : ℕ) (s : RoleSet) (u : List ℕ) → drop (length line - length u) line ≡ u → f (k p s u) ≡ l p s u)
+        → f (permissionSet other k (drop at line)) ≡ permissionSet (f other) l (drop at line)
+    unfolding permissionSet
+    permission-set-map k l e = number-then-map _ _ lastPermission (drop at line) (λ p w r. set-then-map (k p) (l p) w (λ s u q.
+        e p (record { bits = s }) u (set-behind line (length line - length w) s u (rw (number-behind line at lastPermission p w r) q))))
 
-  pub permission-set-map : (k : ℕ → RoleSet → A) (t : List ℕ) → f (permissionSet other k t) ≡ permissionSet (f other) (λ p s. f (k p s)) t
-  unfolding permissionSet
-  permission-set-map k t = got-map _ _ (readNumber lastPermission (fieldOf t)) (λ p u. set-map (k p) u)
-
-  pub permission-role-map : (k : ℕ → ℕ → A) (t : List ℕ) → f (permissionRole other k t) ≡ permissionRole (f other) (λ p r. f (k p r)) t
-  unfolding permissionRole
-  permission-role-map k t = got-map _ _ (readNumber lastPermission (fieldOf t)) (λ p u. number-map (k p) lastRole u)
+    pub permission-role-map : (k : ℕ → ℕ → List ℕ → A) (l : ℕ → ℕ → List ℕ → B)
+        → ((p r : ℕ) (u : List ℕ) → drop (length line - length u) line ≡ u → f (k p r u) ≡ l p r u)
+        → f (permissionRole other k (drop at line)) ≡ permissionRole (f other) l (drop at line)
+    unfolding permissionRole
+    permission-role-map k l e = number-then-map _ _ lastPermission (drop at line) (λ p w h. number-then-map (k p) (l p) lastRole w (λ r u q.
+        e p r u (number-behind line (length line - length w) lastRole r u (rw (number-behind line at lastPermission p w h) q))))

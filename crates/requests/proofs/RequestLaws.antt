@@ -1,7 +1,7 @@
 -- Requests: what was printed reads back, and nothing else is read. Assumes nothing.
-use mathlib.Core.Path.{_≡_, refl, sym}
+use mathlib.Core.Path.{_≡_, refl, sym, ap, _∙_}
 use mathlib.Core.Bool.{Bool, true, false, cond}
-use mathlib.Core.List.{List, [], _∷_, _++_}
+use mathlib.Core.List.{List, [], _∷_, _++_, append-nil}
 use mathlib.Core.Logic.{_≢_, _⊎_, inl, inr}
 use Prim.Native.Nat.{ℕ, _≤_, _<_}
 use native.Mathlib.Omega.{arith}
@@ -9,34 +9,52 @@ use borrow.Author.Tests.{eqb-true, ne-eqb}
 use lib.Dec.{eqb}
 use lib.ListN.{length, drop, getD, length-append}
 use Rattle.roles.specs.declared.RoleSet.{RoleSet}
-use Rattle.roles.specs.Sets.{lastRole}
+use Rattle.roles.specs.Sets.{lastRole, mostRoles, Below}
 use Rattle.meaning.specs.declared.Happening.{Happening}
 use Rattle.meaning.specs.declared.Happening.the-variants.{Allow, Deny, Given, Withdrawn}
-use Rattle.meaning.specs.Events.{lastPermission}
+use Rattle.meaning.specs.Events.{lastPermission, lastPolicyState}
 use Rattle.text.specs.Ascii.{space, lf, Lacks}
 use Rattle.text.specs.Number.{numberText}
 use Rattle.text.proofs.Shape.{lacks-append}
 use Rattle.text.proofs.Theorems.{number32-length, set-length, number-lacks-lf, set-lacks-lf}
-use Rattle.requests.specs.Fields.{lastCount}
-use Rattle.requests.specs.Request.{mostBytes, letterO, letterA, letterD, letterG, letterR, letterQ, letterF, letterS, spaced, spacedSet, eventText, requestText, HappeningInRange, InRange, told, byLetter, requestOf}
+use Rattle.requests.specs.Fields.{lastCount, ended, permissionSet, permissionRole}
+use Rattle.requests.specs.Request.{mostBytes, letterO, letterA, letterD, letterG, letterR, letterQ, letterF, letterS, spaced, spacedSet, eventText, requestText, HappeningInRange, InRange, told, inState, byLetter, requestOf}
 use Rattle.requests.specs.declared.Request.{Request}
 use Rattle.requests.specs.declared.Request.the-variants.{Open, Told, Decide, Forget, Show, Unreadable}
-use Rattle.requests.proofs.FieldLaws.{number-last-back, permission-set-back, permission-role-back, ended-only, number-last-only, permission-set-only, permission-role-only}
+use Rattle.requests.proofs.FieldLaws.{ends-nothing, ends-space, number-then-back, number-last-back, permission-set-back, permission-role-back, ended-only, number-then-only, number-last-only, permission-set-only, permission-role-only}
 
 -- ---- what was printed reads back
 
-event-back : (p : ℕ) (h : Happening) → p ≤ lastPermission → HappeningInRange h → requestOf (eventText p h) ≡ told p h
+state-back : (k : ℕ → Request) (g : ℕ) → g ≤ lastPolicyState → inState k (spaced g) ≡ k g
+state-back k g h = number-last-back Unreadable k lastPolicyState g h
+
+-- the fields of an event, and then its policy state
+told-set-back : (e : RoleSet → Happening) (p : ℕ) (s : RoleSet) (g : ℕ) → p ≤ lastPermission → Below mostRoles (s .bits) → g ≤ lastPolicyState
+    → permissionSet Unreadable (λ p s. inState (told p (e s))) (spaced p ++ (spacedSet s ++ spaced g)) ≡ told p (e s) g
+told-set-back e p s g h b k = permission-set-back Unreadable (λ p s. inState (told p (e s))) p s (spaced g) h b (ends-space (numberText g)) ∙ state-back (told p (e s)) g k
+
+told-role-back : (e : ℕ → Happening) (p r g : ℕ) → p ≤ lastPermission → r ≤ lastRole → g ≤ lastPolicyState
+    → permissionRole Unreadable (λ p r. inState (told p (e r))) (spaced p ++ (spaced r ++ spaced g)) ≡ told p (e r) g
+told-role-back e p r g h b k = permission-role-back Unreadable (λ p r. inState (told p (e r))) p r (spaced g) h b (ends-space (numberText g)) ∙ state-back (told p (e r)) g k
+
+event-back : (p : ℕ) (e : Happening) (g : ℕ) → p ≤ lastPermission → HappeningInRange e → g ≤ lastPolicyState → requestOf (eventText p e g) ≡ told p e g
 unfolding requestOf eventText byLetter
-event-back p (Allow s) k w = permission-set-back Unreadable (λ p s. told p (Allow s)) p s k w
-event-back p (Deny s) k w = permission-set-back Unreadable (λ p s. told p (Deny s)) p s k w
-event-back p (Given r) k w = permission-role-back Unreadable (λ p r. told p (Given r)) p r k w
-event-back p (Withdrawn r) k w = permission-role-back Unreadable (λ p r. told p (Withdrawn r)) p r k w
+event-back p (Allow s) g h b k = told-set-back Allow p s g h b k
+event-back p (Deny s) g h b k = told-set-back Deny p s g h b k
+event-back p (Given r) g h b k = told-role-back Given p r g h b k
+event-back p (Withdrawn r) g h b k = told-role-back Withdrawn p r g h b k
+
+decide-back : (p : ℕ) (s : RoleSet) → p ≤ lastPermission → Below mostRoles (s .bits)
+    → permissionSet Unreadable (λ p s. ended Unreadable (Decide p s)) (spaced p ++ spacedSet s) ≡ Decide p s
+decide-back p s h b =
+    let read : List ℕ → Request = λ u. permissionSet Unreadable (λ p s. ended Unreadable (Decide p s)) (spaced p ++ u) in
+    ap read (sym (append-nil (spacedSet s))) ∙ permission-set-back Unreadable (λ p s. ended Unreadable (Decide p s)) p s [] h b ends-nothing
 
 pub request-back : (q : Request) → InRange q → requestOf (requestText q) ≡ q
 unfolding requestOf requestText byLetter
-request-back (Open n) h = number-last-back Unreadable Open lastCount n h
-request-back (Told e) h = event-back (e .permission) (e .happening) (h .0) (h .1)
-request-back (Decide p s) h = permission-set-back Unreadable Decide p s (h .0) (h .1)
+request-back (Open n g) h = number-then-back Unreadable (λ n. inState (Open n)) lastCount n (spaced g) (h .0) (ends-space (numberText g)) ∙ state-back (Open n) g (h .1)
+request-back (Told e) h = event-back (e .permission) (e .happening) (e .state) (h .0) (h .1) (h .2)
+request-back (Decide p s) h = decide-back p s (h .0) (h .1)
 request-back (Forget p) h = number-last-back Unreadable Forget lastPermission p h
 request-back Show h = refl
 request-back Unreadable h = absurd h
@@ -55,17 +73,34 @@ letter c k t x y f g = go (eqb c k) refl
     go true e = f (eqb-true c k e)
     go false e = g
 
+module _ (s : List ℕ) where
+  -- what ends with a policy state
+  state-only : (k : ℕ → Request) (t : List ℕ) → ((g : ℕ) → t ≡ spaced g → g ≤ lastPolicyState → Said s (k g)) → Said s (inState k t)
+  state-only k t f = number-last-only Unreadable (Said s) (inl refl) k lastPolicyState t f
+
+  told-set-only : (e : RoleSet → Happening) (t : List ℕ)
+      → ((p : ℕ) (r : RoleSet) (g : ℕ) → t ≡ spaced p ++ (spacedSet r ++ spaced g) → p ≤ lastPermission → Below mostRoles (r .bits) → g ≤ lastPolicyState → Said s (told p (e r) g))
+      → Said s (permissionSet Unreadable (λ p r. inState (told p (e r))) t)
+  told-set-only e t f = permission-set-only Unreadable (Said s) (inl refl) (λ p r. inState (told p (e r))) t (λ p r u n h b.
+      state-only (told p (e r)) u (λ g m k. f p r g (n ∙ ap (λ (x : List ℕ). spaced p ++ (spacedSet r ++ x)) m) h b k))
+
+  told-role-only : (e : ℕ → Happening) (t : List ℕ)
+      → ((p r g : ℕ) → t ≡ spaced p ++ (spaced r ++ spaced g) → p ≤ lastPermission → r ≤ lastRole → g ≤ lastPolicyState → Said s (told p (e r) g))
+      → Said s (permissionRole Unreadable (λ p r. inState (told p (e r))) t)
+  told-role-only e t f = permission-role-only Unreadable (Said s) (inl refl) (λ p r. inState (told p (e r))) t (λ p r u n h b.
+      state-only (told p (e r)) u (λ g m k. f p r g (n ∙ ap (λ (x : List ℕ). spaced p ++ (spaced r ++ x)) m) h b k))
+
 pub request-only : (s : List ℕ) → Said s (requestOf s)
 unfolding requestOf byLetter requestText eventText
 request-only [] = inl refl
 request-only (c ∷ t) =
     let P = Said (c ∷ t) in
-    letter c letterO t _ _ (λ l. number-last-only Unreadable P (inl refl) Open lastCount t (λ n e h. inr (rw (l, e) refl, h)))
-    (letter c letterA t _ _ (λ l. permission-set-only Unreadable P (inl refl) (λ p s. told p (Allow s)) t (λ p s e h k. inr (rw (l, e) refl, (h, k))))
-    (letter c letterD t _ _ (λ l. permission-set-only Unreadable P (inl refl) (λ p s. told p (Deny s)) t (λ p s e h k. inr (rw (l, e) refl, (h, k))))
-    (letter c letterG t _ _ (λ l. permission-role-only Unreadable P (inl refl) (λ p r. told p (Given r)) t (λ p r e h k. inr (rw (l, e) refl, (h, k))))
-    (letter c letterR t _ _ (λ l. permission-role-only Unreadable P (inl refl) (λ p r. told p (Withdrawn r)) t (λ p r e h k. inr (rw (l, e) refl, (h, k))))
-    (letter c letterQ t _ _ (λ l. permission-set-only Unreadable P (inl refl) Decide t (λ p s e h k. inr (rw (l, e) refl, (h, k))))
+    letter c letterO t _ _ (λ l. number-then-only Unreadable P (inl refl) (λ n. inState (Open n)) lastCount t (λ n u e h. state-only (c ∷ t) (Open n) u (λ g m k. inr (rw (l, e, m) refl, (h, k)))))
+    (letter c letterA t _ _ (λ l. told-set-only (c ∷ t) Allow t (λ p s g e h b k. inr (rw (l, e) refl, (h, b, k))))
+    (letter c letterD t _ _ (λ l. told-set-only (c ∷ t) Deny t (λ p s g e h b k. inr (rw (l, e) refl, (h, b, k))))
+    (letter c letterG t _ _ (λ l. told-role-only (c ∷ t) Given t (λ p r g e h b k. inr (rw (l, e) refl, (h, b, k))))
+    (letter c letterR t _ _ (λ l. told-role-only (c ∷ t) Withdrawn t (λ p r g e h b k. inr (rw (l, e) refl, (h, b, k))))
+    (letter c letterQ t _ _ (λ l. permission-set-only Unreadable P (inl refl) (λ p s. ended Unreadable (Decide p s)) t (λ p s u e h b. ended-only Unreadable P (inl refl) (Decide p s) u (λ n. inr (rw (l, e, n, append-nil (spacedSet s)) refl, (h, b)))))
     (letter c letterF t _ _ (λ l. number-last-only Unreadable P (inl refl) Forget lastPermission t (λ p e h. inr (rw (l, e) refl, h)))
     (letter c letterS t _ _ (λ l. ended-only Unreadable P (inl refl) Show t (λ e. inr (rw (l, e) refl, tt))) (inl refl))))))))
 
@@ -88,26 +123,31 @@ no-letter c t o a d g r q f s =
 
 -- ---- the shape of texts
 
--- a letter and a permission, and then a set or a role
-with-set-length : (c p : ℕ) (s : RoleSet) → p ≤ lastPermission → length (c ∷ (spaced p ++ spacedSet s)) ≤ mostBytes
-with-set-length c p s h = let a = number32-length p (omega arith) in let b = set-length (s .bits) in omega (arith, length-append (numberText p) (spacedSet s))
+spaced-length : (v : ℕ) → v ≤ lastPermission → length (spaced v) ≤ 11
+spaced-length v h = let a = number32-length v (omega arith) in omega arith
 
-with-role-length : (c p r : ℕ) → p ≤ lastPermission → r ≤ lastRole → length (c ∷ (spaced p ++ spaced r)) ≤ mostBytes
-with-role-length c p r h k = let a = number32-length p (omega arith) in let b = number32-length r (omega arith) in omega (arith, length-append (numberText p) (spaced r))
+spaced-set-length : (s : RoleSet) → length (spacedSet s) ≤ 182
+spaced-set-length s = let a = set-length (s .bits) in omega arith
 
-event-length : (p : ℕ) (h : Happening) → p ≤ lastPermission → HappeningInRange h → length (eventText p h) ≤ mostBytes
+told-length : (c p : ℕ) (t : List ℕ) (g : ℕ) → p ≤ lastPermission → length t ≤ 182 → g ≤ lastPolicyState → length (c ∷ (spaced p ++ (t ++ spaced g))) ≤ mostBytes
+told-length c p t g h l k =
+    let a = spaced-length p h in
+    let b = spaced-length g k in
+    omega (arith, length-append (spaced p) (t ++ spaced g), length-append t (spaced g))
+
+event-length : (p : ℕ) (e : Happening) (g : ℕ) → p ≤ lastPermission → HappeningInRange e → g ≤ lastPolicyState → length (eventText p e g) ≤ mostBytes
 unfolding eventText
-event-length p (Allow s) k w = with-set-length letterA p s k
-event-length p (Deny s) k w = with-set-length letterD p s k
-event-length p (Given r) k w = with-role-length letterG p r k w
-event-length p (Withdrawn r) k w = with-role-length letterR p r k w
+event-length p (Allow s) g h b k = told-length letterA p (spacedSet s) g h (spaced-set-length s) k
+event-length p (Deny s) g h b k = told-length letterD p (spacedSet s) g h (spaced-set-length s) k
+event-length p (Given r) g h b k = told-length letterG p (spaced r) g h (let a = spaced-length r (omega arith) in omega arith) k
+event-length p (Withdrawn r) g h b k = told-length letterR p (spaced r) g h (let a = spaced-length r (omega arith) in omega arith) k
 
 pub request-length : (q : Request) → InRange q → length (requestText q) ≤ mostBytes
 unfolding requestText
-request-length (Open n) h = let a = number32-length n (omega arith) in omega arith
-request-length (Told e) h = event-length (e .permission) (e .happening) (h .0) (h .1)
-request-length (Decide p s) h = with-set-length letterQ p s (h .0)
-request-length (Forget p) h = let a = number32-length p (omega arith) in omega arith
+request-length (Open n g) h = let a = spaced-length n (omega arith) in let b = spaced-length g (h .1) in omega (arith, length-append (spaced n) (spaced g))
+request-length (Told e) h = event-length (e .permission) (e .happening) (e .state) (h .0) (h .1) (h .2)
+request-length (Decide p s) h = let a = spaced-length p (h .0) in let b = spaced-set-length s in omega (arith, length-append (spaced p) (spacedSet s))
+request-length (Forget p) h = let a = spaced-length p h in omega arith
 request-length Show h = omega arith
 request-length Unreadable h = absurd h
 
@@ -118,24 +158,24 @@ no-lf c h e = omega arith
 spaced-nolf : (v : ℕ) → Lacks lf (spaced v)
 spaced-nolf v = (no-lf space (omega arith), number-lacks-lf v)
 
-with-set-nolf : (c p : ℕ) (s : RoleSet) → lf < c → Lacks lf (c ∷ (spaced p ++ spacedSet s))
-with-set-nolf c p s h = (no-lf c h, lacks-append lf (spaced p) (spacedSet s) (spaced-nolf p) (no-lf space (omega arith), set-lacks-lf (s .bits)))
+spaced-set-nolf : (s : RoleSet) → Lacks lf (spacedSet s)
+spaced-set-nolf s = (no-lf space (omega arith), set-lacks-lf (s .bits))
 
-with-role-nolf : (c p r : ℕ) → lf < c → Lacks lf (c ∷ (spaced p ++ spaced r))
-with-role-nolf c p r h = (no-lf c h, lacks-append lf (spaced p) (spaced r) (spaced-nolf p) (spaced-nolf r))
+told-nolf : (c p : ℕ) (t : List ℕ) (g : ℕ) → lf < c → Lacks lf t → Lacks lf (c ∷ (spaced p ++ (t ++ spaced g)))
+told-nolf c p t g h l = (no-lf c h, lacks-append lf (spaced p) (t ++ spaced g) (spaced-nolf p) (lacks-append lf t (spaced g) l (spaced-nolf g)))
 
-event-nolf : (p : ℕ) (h : Happening) → Lacks lf (eventText p h)
+event-nolf : (p : ℕ) (e : Happening) (g : ℕ) → Lacks lf (eventText p e g)
 unfolding eventText
-event-nolf p (Allow s) = with-set-nolf letterA p s (omega arith)
-event-nolf p (Deny s) = with-set-nolf letterD p s (omega arith)
-event-nolf p (Given r) = with-role-nolf letterG p r (omega arith)
-event-nolf p (Withdrawn r) = with-role-nolf letterR p r (omega arith)
+event-nolf p (Allow s) g = told-nolf letterA p (spacedSet s) g (omega arith) (spaced-set-nolf s)
+event-nolf p (Deny s) g = told-nolf letterD p (spacedSet s) g (omega arith) (spaced-set-nolf s)
+event-nolf p (Given r) g = told-nolf letterG p (spaced r) g (omega arith) (spaced-nolf r)
+event-nolf p (Withdrawn r) g = told-nolf letterR p (spaced r) g (omega arith) (spaced-nolf r)
 
 pub request-nolf : (q : Request) → Lacks lf (requestText q)
 unfolding requestText
-request-nolf (Open n) = (no-lf letterO (omega arith), spaced-nolf n)
-request-nolf (Told e) = event-nolf (e .permission) (e .happening)
-request-nolf (Decide p s) = with-set-nolf letterQ p s (omega arith)
+request-nolf (Open n g) = (no-lf letterO (omega arith), lacks-append lf (spaced n) (spaced g) (spaced-nolf n) (spaced-nolf g))
+request-nolf (Told e) = event-nolf (e .permission) (e .happening) (e .state)
+request-nolf (Decide p s) = (no-lf letterQ (omega arith), lacks-append lf (spaced p) (spacedSet s) (spaced-nolf p) (spaced-set-nolf s))
 request-nolf (Forget p) = (no-lf letterF (omega arith), spaced-nolf p)
 request-nolf Show = (no-lf letterS (omega arith), tt)
 request-nolf Unreadable = tt

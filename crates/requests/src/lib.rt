@@ -2,6 +2,7 @@
 use meaning::Event;
 use meaning::Happening;
 use meaning::LAST_PERMISSION;
+use meaning::LAST_POLICY_STATE;
 use roles::LAST_ROLE;
 use roles::RoleSet;
 use text::NumberField;
@@ -12,18 +13,18 @@ ghost use lib.ListN.{drop};
 ghost use Rattle.text.specs.Number.{readNumber};
 ghost use Rattle.text.specs.Set.{readSet};
 ghost use Rattle.text.specs.Field.{numberField, setField};
-ghost use Rattle.requests.specs.Fields.{fieldOf, lastNumber, permissionSet, permissionRole};
-ghost use Rattle.requests.specs.Request.{letterO, letterA, letterD, letterG, letterR, letterQ, letterF, letterS, byLetter, requestOf};
+ghost use Rattle.requests.specs.Fields.{fieldOf, lastNumber, permissionSetField, permissionRoleField};
+ghost use Rattle.requests.specs.Request.{letterO, letterA, letterD, letterG, letterR, letterQ, letterF, letterS, told, inState, byLetter, requestOf};
 
 // A line has at most so many bytes before its LF.
-pub const MOST_BYTES: usize = 200;
+pub const MOST_BYTES: usize = 216;
 
 // The largest role count that a line can say.
 const LAST_COUNT: u64 = 255;
 
 // What a line asks for.
 pub enum Request {
-    Open(u64),
+    Open(u64, u32),
     Told(Event),
     Decide(u32, RoleSet),
     Forget(u32),
@@ -37,15 +38,23 @@ enum LastNumber {
     Bad,
 }
 
-// The fields `p set`.
+// The fields `p set`, and the place behind them.
 enum PermissionSet {
-    Read { permission: u32, set: RoleSet },
+    Read {
+        permission: u32,
+        set: RoleSet,
+        next: usize,
+    },
     Bad,
 }
 
-// The fields `p r`.
+// The fields `p r`, and the place behind them.
 enum PermissionRole {
-    Read { permission: u32, role: u64 },
+    Read {
+        permission: u32,
+        role: u64,
+        next: usize,
+    },
     Bad,
 }
 
@@ -83,118 +92,149 @@ fn last_number(line: &[u8], at: usize, limit: u64) -> LastNumber
     let NumberField::Read { value, next } = number_field(line, at, limit) else {
         return LastNumber::Bad;
     };
-    if next == line.len() {
+    if line.len() <= next {
         LastNumber::Value(value)
     } else {
         LastNumber::Bad
     }
 }
 
-// A permission and a set, behind the letter to the end of the line.
+// A permission and a set, behind the letter.
 fn permission_set(line: &[u8]) -> PermissionSet
-    ensures { λ r. ⌜ r ≡ permissionSet PermissionSet.Bad PermissionSet.Read (drop 1 (now (line .entry))) ⌝ }
+    ensures { λ r. ⌜ r ≡ permissionSetField (now (line .entry)) (drop 1 (now (line .entry))) ⌝ }
 {
     let NumberField::Read { value, next } = number_field(line, 1, LAST_PERMISSION) else {
         return PermissionSet::Bad;
     };
-    let SetField::Read { set, next: end } = set_field(line, next) else {
+    let SetField::Read { set, next } = set_field(line, next) else {
         return PermissionSet::Bad;
     };
-    if end == line.len() {
-        PermissionSet::Read {
-            permission: value as u32,
-            set,
-        }
-    } else {
-        PermissionSet::Bad
+    PermissionSet::Read {
+        permission: value as u32,
+        set,
+        next,
     }
 }
 
-// A permission and a role, behind the letter to the end of the line.
+// A permission and a role, behind the letter.
 fn permission_role(line: &[u8]) -> PermissionRole
-    ensures { λ r. ⌜ r ≡ permissionRole PermissionRole.Bad PermissionRole.Read (drop 1 (now (line .entry))) ⌝ }
+    ensures { λ r. ⌜ r ≡ permissionRoleField (now (line .entry)) (drop 1 (now (line .entry))) ⌝ }
 {
     let NumberField::Read { value, next } = number_field(line, 1, LAST_PERMISSION) else {
         return PermissionRole::Bad;
     };
-    let LastNumber::Value(role) = last_number(line, next, LAST_ROLE) else {
+    let NumberField::Read { value: role, next } = number_field(line, next, LAST_ROLE) else {
         return PermissionRole::Bad;
     };
     PermissionRole::Read {
         permission: value as u32,
         role,
+        next,
     }
 }
 
-// `O n`
+// An event, whose policy state stands from the space at the place `at` to the end of the line.
+fn told_of(line: &[u8], at: usize, permission: u32, happening: Happening) -> Request
+    ensures { λ r. ⌜ r ≡ inState (told permission happening) (drop at (now (line .entry))) ⌝ }
+{
+    let LastNumber::Value(state) = last_number(line, at, LAST_POLICY_STATE) else {
+        return Request::Unreadable;
+    };
+    Request::Told(Event {
+        permission,
+        happening,
+        state: state as u32,
+    })
+}
+
+// `O n state`
 fn open_of(line: &[u8]) -> Request
     ensures { λ r. ⌜ r ≡ byLetter letterO (drop 1 (now (line .entry))) ⌝ }
 {
-    let LastNumber::Value(n) = last_number(line, 1, LAST_COUNT) else {
+    let NumberField::Read { value, next } = number_field(line, 1, LAST_COUNT) else {
         return Request::Unreadable;
     };
-    Request::Open(n)
+    let LastNumber::Value(state) = last_number(line, next, LAST_POLICY_STATE) else {
+        return Request::Unreadable;
+    };
+    Request::Open(value, state as u32)
 }
 
-// `A p set`
+// `A p set state`
 fn allow_of(line: &[u8]) -> Request
     ensures { λ r. ⌜ r ≡ byLetter letterA (drop 1 (now (line .entry))) ⌝ }
 {
-    let PermissionSet::Read { permission, set } = permission_set(line) else {
+    let PermissionSet::Read {
+        permission,
+        set,
+        next,
+    } = permission_set(line)
+    else {
         return Request::Unreadable;
     };
-    Request::Told(Event {
-        permission,
-        happening: Happening::Allow(set),
-    })
+    told_of(line, next, permission, Happening::Allow(set))
 }
 
-// `D p set`
+// `D p set state`
 fn deny_of(line: &[u8]) -> Request
     ensures { λ r. ⌜ r ≡ byLetter letterD (drop 1 (now (line .entry))) ⌝ }
 {
-    let PermissionSet::Read { permission, set } = permission_set(line) else {
+    let PermissionSet::Read {
+        permission,
+        set,
+        next,
+    } = permission_set(line)
+    else {
         return Request::Unreadable;
     };
-    Request::Told(Event {
-        permission,
-        happening: Happening::Deny(set),
-    })
+    told_of(line, next, permission, Happening::Deny(set))
 }
 
-// `G p r`
+// `G p r state`
 fn given_of(line: &[u8]) -> Request
     ensures { λ r. ⌜ r ≡ byLetter letterG (drop 1 (now (line .entry))) ⌝ }
 {
-    let PermissionRole::Read { permission, role } = permission_role(line) else {
+    let PermissionRole::Read {
+        permission,
+        role,
+        next,
+    } = permission_role(line)
+    else {
         return Request::Unreadable;
     };
-    Request::Told(Event {
-        permission,
-        happening: Happening::Given(role),
-    })
+    told_of(line, next, permission, Happening::Given(role))
 }
 
-// `R p r`
+// `R p r state`
 fn withdrawn_of(line: &[u8]) -> Request
     ensures { λ r. ⌜ r ≡ byLetter letterR (drop 1 (now (line .entry))) ⌝ }
 {
-    let PermissionRole::Read { permission, role } = permission_role(line) else {
+    let PermissionRole::Read {
+        permission,
+        role,
+        next,
+    } = permission_role(line)
+    else {
         return Request::Unreadable;
     };
-    Request::Told(Event {
-        permission,
-        happening: Happening::Withdrawn(role),
-    })
+    told_of(line, next, permission, Happening::Withdrawn(role))
 }
 
 // `Q p set`
 fn decide_of(line: &[u8]) -> Request
     ensures { λ r. ⌜ r ≡ byLetter letterQ (drop 1 (now (line .entry))) ⌝ }
 {
-    let PermissionSet::Read { permission, set } = permission_set(line) else {
+    let PermissionSet::Read {
+        permission,
+        set,
+        next,
+    } = permission_set(line)
+    else {
         return Request::Unreadable;
     };
+    if next < line.len() {
+        return Request::Unreadable;
+    }
     Request::Decide(permission, set)
 }
 

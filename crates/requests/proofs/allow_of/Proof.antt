@@ -1,20 +1,25 @@
 -- `requests::allow_of` meets its contract. Assumes nothing.
 use borrow.Author.Needs.{needs}
 use mathlib.Core.Path.{sym, _∙_}
-use Rattle.requests.specs.Request.{told, byLetter}
 use Rattle.meaning.specs.declared.Happening.the-variants.{Allow}
+use Rattle.requests.specs.Request.{told, inState, byLetter}
 use Rattle.requests.specs.declared.Request.the-variants.{Unreadable}
-use Rattle.requests.proofs.Made.{of-set}
+use Rattle.requests.proofs.Made.{of-permission-set}
 use Rattle.requests.proofs.allow_of.Statement.{statement}
 use Rattle.requests.proofs.allow_of.Tie as tie
 
 returns : tie.Need-returns
 unfolding byLetter
-returns c = of-set Unreadable (λ p s. told p (Allow s)) _ (sym (c .enum-told .given .1) ∙ c .before .before .permission-set .ensures)
+returns c =
+    let line = c .before .before .before .before .args .line .now in
+    of-permission-set Unreadable line (λ p s. inState (told p (Allow s))) 1 (sym (c .enum-told .given .1) ∙ c .before .before .permission-set .ensures)
 
 returns-2 : tie.Need-returns-2
 unfolding byLetter
-returns-2 c = of-set Unreadable (λ p s. told p (Allow s)) _ (sym (c .before .permission .given .1) ∙ c .before .before .before .permission-set .ensures)
+returns-2 c =
+    let d = c .before .before in
+    let line = d .before .before .before .before .args .line .now in
+    c .told-of .ensures ∙ of-permission-set Unreadable line (λ p s. inState (told p (Allow s))) 1 (sym (d .permission .given .1) ∙ d .before .before .permission-set .ensures)
 
 pub allow-of-spec : {M : Type 1} → statement M
-allow-of-spec = tie.close (tie.spec (λ c κs. search needs) (λ c. search needs) (λ c. search needs) returns returns-2)
+allow-of-spec = tie.close (tie.spec (λ c κs. search needs) (λ c. search needs) (λ c. search needs) returns (λ c κs. search needs) returns-2)

@@ -2,19 +2,28 @@
 use borrow.Author.Needs.{needs}
 use mathlib.Core.Path.{_≡_, sym, _∙_}
 use mathlib.Core.List.{List}
-use Prim.Native.Nat.{ℕ, _≤_}
+use Prim.Native.Nat.{ℕ, _-_}
 use native.Mathlib.Omega.{arith}
 use lib.ListN.{length, drop}
 use Rattle.roles.specs.Sets.{lastRole}
 use Rattle.meaning.specs.Events.{lastPermission}
-use Rattle.text.specs.Number.{found, readNumber}
-use Rattle.text.proofs.Walks.{number-bad}
-use Rattle.requests.specs.Fields.{fieldOf, lastNumber, permissionRole}
+use Rattle.requests.specs.Fields.{numberThen, permissionRole, permissionRoleField}
+use Rattle.requests.specs.declared.PermissionRole.{PermissionRole}
 use Rattle.requests.specs.declared.PermissionRole.the-variants as role
-use Rattle.requests.proofs.FieldLaws.{number-spaced, permission-role-is}
-use Rattle.requests.proofs.Made.{of-number}
+use Rattle.requests.proofs.FieldLaws.{number-spaced}
+use Rattle.requests.proofs.Made.{of-number, of-number-place}
 use Rattle.requests.proofs.permission_role.Statement.{statement}
 use Rattle.requests.proofs.permission_role.Tie as tie
+
+-- what comes of a permission and the bytes behind it
+abbrev read-role : List ℕ → ℕ → List ℕ → PermissionRole
+read-role line p t = numberThen role.Bad (λ r u. role.Read p r (length line - length u)) lastRole t
+
+returns : tie.Need-returns
+unfolding permissionRole
+returns c =
+    let line = c .before .before .before .before .args .line .now in
+    of-number role.Bad line (read-role line) lastPermission 1 (sym (c .enum-told .given .1) ∙ c .before .before .number-field .ensures)
 
 abbrev line-of : tie.After-known-told → List ℕ
 line-of c = c .before .before .before .before .before .args .line .now
@@ -25,25 +34,25 @@ permission-of c = c .before .value .given .0 .0
 abbrev next-of : tie.After-known-told → ℕ
 next-of c = c .before .value .given .0 .1 .0
 
-permission-read : (c : tie.After-known-told) → (readNumber lastPermission (fieldOf (drop 1 (line-of c))) ≡ found (permission-of c) (drop (next-of c) (line-of c))) × (permission-of c ≤ lastPermission) × (next-of c ≤ length (line-of c))
-permission-read c = number-spaced (line-of c) 1 lastPermission (permission-of c) (next-of c) (sym (c .before .value .given .1) ∙ c .before .before .before .number-field .ensures)
-
--- what the role's field reads as is what both read as
-behind : (c : tie.After-known-told) → lastNumber role.Bad (role.Read (permission-of c)) lastRole (drop (next-of c) (line-of c)) ≡ permissionRole role.Bad role.Read (drop 1 (line-of c))
-behind c = permission-role-is role.Bad (drop 1 (line-of c)) (found (permission-of c) (drop (next-of c) (line-of c))) role.Read (permission-read c .0)
-
-returns : tie.Need-returns
-returns c = permission-role-is role.Bad _ _ role.Read (number-bad _ _ (sym (c .enum-told .given .1) ∙ c .before .before .number-field .ensures))
+-- what the fields read as is what comes of the bytes behind the permission
+behind : (c : tie.After-known-told) → read-role (line-of c) (permission-of c) (drop (next-of c) (line-of c)) ≡ permissionRoleField (line-of c) (drop 1 (line-of c))
+unfolding permissionRole
+behind c = of-number role.Bad (line-of c) (read-role (line-of c)) lastPermission 1 (sym (c .before .value .given .1) ∙ c .before .before .before .number-field .ensures)
 
 returns-2 : tie.Need-returns-2
 returns-2 c =
     let d = c .before .before .before in
-    of-number role.Bad (role.Read (permission-of d)) _ _ (sym (c .enum-told2 .given .1) ∙ c .before .before .last-number .ensures) ∙ behind d
+    of-number-place role.Bad (line-of d) (role.Read (permission-of d)) lastRole (drop (next-of d) (line-of d)) (sym (c .enum-told2 .given .1) ∙ c .before .before .number-field2 .ensures) ∙ behind d
 
 returns-3 : tie.Need-returns-3
 returns-3 c =
     let d = c .before .before .before .before in
-    of-number role.Bad (role.Read (permission-of d)) _ _ (sym (c .before .role .given .1) ∙ c .before .before .before .last-number .ensures) ∙ behind d
+    of-number-place role.Bad (line-of d) (role.Read (permission-of d)) lastRole (drop (next-of d) (line-of d)) (sym (c .before .role .given .1) ∙ c .before .before .before .number-field2 .ensures) ∙ behind d
+
+cast : tie.Need-cast-t8
+cast c =
+    let d = c .before .before .before .before in
+    omega (arith, number-spaced (line-of d) 1 lastPermission (permission-of d) (next-of d) (sym (d .before .value .given .1) ∙ d .before .before .before .number-field .ensures) .1)
 
 pub permission-role-spec : {M : Type 1} → statement M
-permission-role-spec = tie.close (tie.spec (λ c κs. search needs) (λ c. search needs) (λ c. search needs) returns (λ c κs. search needs) (λ c. search needs) (λ c. search needs) returns-2 (λ c. let p = permission-read (c .before .before .before .before) in omega arith) returns-3)
+permission-role-spec = tie.close (tie.spec (λ c κs. search needs) (λ c. search needs) (λ c. search needs) returns (λ c κs. search needs) (λ c. search needs) (λ c. search needs) returns-2 cast returns-3)

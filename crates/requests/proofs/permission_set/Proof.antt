@@ -2,18 +2,27 @@
 use borrow.Author.Needs.{needs}
 use mathlib.Core.Path.{_≡_, sym, _∙_}
 use mathlib.Core.List.{List}
-use Prim.Native.Nat.{ℕ, _≤_}
+use Prim.Native.Nat.{ℕ, _-_}
 use native.Mathlib.Omega.{arith}
-use lib.Arith.{lt-of-le-ne}
 use lib.ListN.{length, drop}
 use Rattle.meaning.specs.Events.{lastPermission}
-use Rattle.text.specs.Number.{found, readNumber}
-use Rattle.text.proofs.Walks.{number-bad, set-bad}
-use Rattle.requests.specs.Fields.{fieldOf, lastSet, permissionSet}
+use Rattle.requests.specs.Fields.{setThen, permissionSet, permissionSetField}
+use Rattle.requests.specs.declared.PermissionSet.{PermissionSet}
 use Rattle.requests.specs.declared.PermissionSet.the-variants as set
-use Rattle.requests.proofs.FieldLaws.{number-spaced, set-spaced, ended-there, ended-later, set-is, permission-set-is}
+use Rattle.requests.proofs.FieldLaws.{number-spaced}
+use Rattle.requests.proofs.Made.{of-number, of-set-place}
 use Rattle.requests.proofs.permission_set.Statement.{statement}
 use Rattle.requests.proofs.permission_set.Tie as tie
+
+-- what comes of a permission and the bytes behind it
+abbrev read-set : List ℕ → ℕ → List ℕ → PermissionSet
+read-set line p t = setThen set.Bad (λ s u. set.Read p s (length line - length u)) t
+
+returns : tie.Need-returns
+unfolding permissionSet
+returns c =
+    let line = c .before .before .before .before .args .line .now in
+    of-number set.Bad line (read-set line) lastPermission 1 (sym (c .enum-told .given .1) ∙ c .before .before .number-field .ensures)
 
 abbrev line-of : tie.After-known-told → List ℕ
 line-of c = c .before .before .before .before .before .args .line .now
@@ -24,34 +33,25 @@ permission-of c = c .before .value .given .0 .0
 abbrev next-of : tie.After-known-told → ℕ
 next-of c = c .before .value .given .0 .1 .0
 
-permission-read : (c : tie.After-known-told) → (readNumber lastPermission (fieldOf (drop 1 (line-of c))) ≡ found (permission-of c) (drop (next-of c) (line-of c))) × (permission-of c ≤ lastPermission) × (next-of c ≤ length (line-of c))
-permission-read c = number-spaced (line-of c) 1 lastPermission (permission-of c) (next-of c) (sym (c .before .value .given .1) ∙ c .before .before .before .number-field .ensures)
-
--- what the set's field reads as is what both read as
-behind : (c : tie.After-known-told) → lastSet set.Bad (set.Read (permission-of c)) (drop (next-of c) (line-of c)) ≡ permissionSet set.Bad set.Read (drop 1 (line-of c))
-behind c = permission-set-is set.Bad (drop 1 (line-of c)) (found (permission-of c) (drop (next-of c) (line-of c))) set.Read (permission-read c .0)
-
-returns : tie.Need-returns
-returns c = permission-set-is set.Bad _ _ set.Read (number-bad _ _ (sym (c .enum-told .given .1) ∙ c .before .before .number-field .ensures))
+-- what the fields read as is what comes of the bytes behind the permission
+behind : (c : tie.After-known-told) → read-set (line-of c) (permission-of c) (drop (next-of c) (line-of c)) ≡ permissionSetField (line-of c) (drop 1 (line-of c))
+unfolding permissionSet
+behind c = of-number set.Bad (line-of c) (read-set (line-of c)) lastPermission 1 (sym (c .before .value .given .1) ∙ c .before .before .before .number-field .ensures)
 
 returns-2 : tie.Need-returns-2
 returns-2 c =
     let d = c .before .before .before in
-    set-is set.Bad _ _ (set.Read (permission-of d)) (set-bad _ _ (sym (c .enum-told2 .given .1) ∙ c .before .before .set-field .ensures)) ∙ behind d
+    of-set-place set.Bad (line-of d) (set.Read (permission-of d)) (drop (next-of d) (line-of d)) (sym (c .enum-told2 .given .1) ∙ c .before .before .set-field .ensures) ∙ behind d
 
--- the line ends behind the set
 returns-3 : tie.Need-returns-3
 returns-3 c =
-    let d = c .before .before .before .before .before in
-    let t = set-spaced (line-of d) (next-of d) _ _ (sym (c .before .before .set .given .1) ∙ c .before .before .before .before .set-field .ensures) in
-    ended-there set.Bad _ (line-of d) (c .before .before .set .given .0 .1 .0) (omega arith) ∙ set-is set.Bad _ _ (set.Read (permission-of d)) (t .0) ∙ behind d
+    let d = c .before .before .before .before in
+    of-set-place set.Bad (line-of d) (set.Read (permission-of d)) (drop (next-of d) (line-of d)) (sym (c .before .set .given .1) ∙ c .before .before .before .set-field .ensures) ∙ behind d
 
--- bytes come behind the set
-returns-4 : tie.Need-returns-4
-returns-4 c =
-    let d = c .before .before .before .before .before in
-    let t = set-spaced (line-of d) (next-of d) _ _ (sym (c .before .before .set .given .1) ∙ c .before .before .before .before .set-field .ensures) in
-    ended-later set.Bad (set.Read _ _) (line-of d) _ (lt-of-le-ne (t .1) (c .if1 .left)) ∙ set-is set.Bad _ _ (set.Read (permission-of d)) (t .0) ∙ behind d
+cast : tie.Need-cast-t8
+cast c =
+    let d = c .before .before .before .before in
+    omega (arith, number-spaced (line-of d) 1 lastPermission (permission-of d) (next-of d) (sym (d .before .value .given .1) ∙ d .before .before .before .number-field .ensures) .1)
 
 pub permission-set-spec : {M : Type 1} → statement M
-permission-set-spec = tie.close (tie.spec (λ c κs. search needs) (λ c. search needs) (λ c. search needs) returns (λ c κs. search needs) (λ c. search needs) (λ c. search needs) returns-2 (λ c. let p = permission-read (c .before .before .before .before .before) in omega arith) returns-3 returns-4)
+permission-set-spec = tie.close (tie.spec (λ c κs. search needs) (λ c. search needs) (λ c. search needs) returns (λ c κs. search needs) (λ c. search needs) (λ c. search needs) returns-2 cast returns-3)
