@@ -11,7 +11,7 @@ use lib.Dec.{T, eqb, leb, ltb, leb→le, le→leb, ltb→lt}
 use Rattle.meaning.specs.declared.Happening.{Happening}
 use Rattle.meaning.specs.declared.Happening.the-variants.{Allow, Deny, Given, Withdrawn}
 use Rattle.meaning.specs.Events.{agrees, after, isReply, Becomes, HolderSet, Possible}
-use Rattle.meaning.specs.States.{Numbered, events, became, Moves, TrueIn, PossibleIn, follows, Timely}
+use Rattle.meaning.specs.States.{Numbered, happenings, became, Moves, TrueIn, PossibleIn, follows, Timely}
 
 -- a reply changes nothing, an update agrees with every holder set
 reply-stays : (e : Happening) (h : ℕ) → isReply e ≡ true → after e h ≡ h
@@ -116,17 +116,17 @@ module _ (e : Numbered) (t : List Numbered) (f : ℕ → ℕ) (g G : ℕ) (y : T
 
 -- ---- a trail
 
-forward : (t : List Numbered) (f : ℕ → ℕ) (g G : ℕ) → Timely g t G → Moves g t f → TrueIn t f → Becomes (events t) (f g) (f G)
+forward : (t : List Numbered) (f : ℕ → ℕ) (g G : ℕ) → Timely g t G → Moves g t f → TrueIn t f → Becomes (happenings t) (f g) (f G)
 forward [] f g G y mv a = sym (still [] f g mv G y (λ k h p q. became-none (suc k) h))
 forward (e ∷ t) f g G y mv a = (
   agrees-named e t f g G y mv .1 (a .0),
-  subst (λ (h : ℕ). Becomes (events t) h (f G)) (in-state e t f g G y mv) (forward t f (e .state) G (y .1) (moves-on e t f g G y mv) (a .1)),
+  subst (λ (h : ℕ). Becomes (happenings t) h (f G)) (in-state e t f g G y mv) (forward t f (e .state) G (y .1) (moves-on e t f g G y mv) (a .1)),
 )
 
-back : (t : List Numbered) (f : ℕ → ℕ) (g G h : ℕ) → Timely g t G → Moves g t f → Becomes (events t) (f g) h → TrueIn t f × (f G ≡ h)
+back : (t : List Numbered) (f : ℕ → ℕ) (g G h : ℕ) → Timely g t G → Moves g t f → Becomes (happenings t) (f g) h → TrueIn t f × (f G ≡ h)
 back [] f g G h y mv b = (tt, still [] f g mv G y (λ k h p q. became-none (suc k) h) ∙ b)
 back (e ∷ t) f g G h y mv b =
-    let r = back t f (e .state) G h (y .1) (moves-on e t f g G y mv) (subst⁻¹ (λ (x : ℕ). Becomes (events t) x h) (in-state e t f g G y mv) (b .1)) in
+    let r = back t f (e .state) G h (y .1) (moves-on e t f g G y mv) (subst⁻¹ (λ (x : ℕ). Becomes (happenings t) x h) (in-state e t f g G y mv) (b .1)) in
     ((agrees-named e t f g G y mv .0 (b .0), r .0), r .1)
 
 -- the holder sets that the updates make of h from state g on
@@ -144,13 +144,13 @@ unfolding line
 line-moves g t h k a = rw (le-leb g k a)
 
 -- read by the states that its events name, a trail leaves the same holder sets possible
-pub possible-in : (n g : ℕ) (t : List Numbered) (G : ℕ) → Timely g t G → (h : ℕ) → PossibleIn n g t G h ↔ Possible n (events t) h
+pub possible-in : (n g : ℕ) (t : List Numbered) (G : ℕ) → Timely g t G → (h : ℕ) → PossibleIn n g t G h ↔ Possible n (happenings t) h
 possible-in n g t G y h = (
-  (λ p. (p .0 g, p .1, subst (Becomes (events t) (p .0 g)) (p .4) (forward t (p .0) g G y (p .2) (p .3)))),
+  (λ p. (p .0 g, p .1, subst (Becomes (happenings t) (p .0 g)) (p .4) (forward t (p .0) g G y (p .2) (p .3)))),
   λ p.
       let f = line g t (p .0) in
       let q = line-start g t (p .0) in
-      let r = back t f g G h y (line-moves g t (p .0)) (subst⁻¹ (λ (x : ℕ). Becomes (events t) x h) q (p .2)) in
+      let r = back t f g G h y (line-moves g t (p .0)) (subst⁻¹ (λ (x : ℕ). Becomes (happenings t) x h) q (p .2)) in
       (f, subst⁻¹ (HolderSet n) q (p .1), line-moves g t (p .0), r .0, r .1),
 )
 
@@ -173,6 +173,6 @@ timely-then g [] G e y f = (sooner (isReply (e .happening)) f, omega arith)
     sooner false h = let k = ltb→lt G (e .state) h in subst⁻¹ T (lt-ltb g (e .state) (omega arith)) tt
 timely-then g (f ∷ t) G e y k = (y .0, timely-then (f .state) t G e (y .1) k)
 
-pub events-then : (t : List Numbered) (e : Numbered) → events (t ++ e ∷ []) ≡ events t ++ e .happening ∷ []
-events-then [] e = refl
-events-then (f ∷ t) e = ap (λ (l : List Happening). f .happening ∷ l) (events-then t e)
+pub happenings-then : (t : List Numbered) (e : Numbered) → happenings (t ++ e ∷ []) ≡ happenings t ++ e .happening ∷ []
+happenings-then [] e = refl
+happenings-then (f ∷ t) e = ap (λ (l : List Happening). f .happening ∷ l) (happenings-then t e)

@@ -1,6 +1,6 @@
 -- What numbered events mean: a reply is true in the policy state that it names, whenever it comes, and an update makes the state that it names.
 --     Numbered, numbered e g    a happening with the policy state that it names
---     events t             the happenings of a trail
+--     happenings t         the happenings of a trail
 --     became t k h         the holder set of state k, where h is that of the state before: what the trail's update of that number makes of it
 --     Moves g t f          f has a holder set for each policy state; from state g on it changes by the trail's updates alone, each at its number
 --     TrueIn t f           every reply of the trail agrees with the holder set of the state that it names
@@ -22,9 +22,9 @@ pub record Numbered : Type 0 where
 abbrev pub numbered : Happening → ℕ → Numbered
 numbered e g = record { happening = e; state = g }
 
-abbrev pub events : List Numbered → List Happening
-events [] = []
-events (e ∷ t) = e .happening ∷ events t
+abbrev pub happenings : List Numbered → List Happening
+happenings [] = []
+happenings (e ∷ t) = e .happening ∷ happenings t
 
 unfoldable pub became : List Numbered → ℕ → ℕ → ℕ
 became [] k h = h
