@@ -2,16 +2,16 @@
 use mathlib.Core.Path.{_≡_, refl, sym, ap, _∙_, subst, subst⁻¹}
 use mathlib.Core.Bool.{Bool, true, false, not, cond, _&&_, _||_, and-true, or-true}
 use mathlib.Core.List.{List, [], _∷_}
-use mathlib.Core.Logic.{_↔_, _≢_, ⊎-elim}
+use mathlib.Core.Logic.{_↔_, _≢_, inl, inr, ⊎-elim}
 use Prim.Native.Nat.{ℕ, zero, suc, _≤_, _<_}
 use native.Mathlib.Nat.{lt-of-lt-of-le}
 use native.Mathlib.Omega.{arith}
 use borrow.Author.Tests.{ne-eqb, le-leb, lt-leb, lt-ltb, le-ltb}
-use lib.Dec.{T, eqb, ltb, leb, leb→le, ltb→lt}
+use lib.Dec.{T, T-not, eqb, ltb, leb, leb→le, ltb→lt}
 use lib.ListN.{length}
 use lib.Pow.{pow-mono}
 use Rattle.roles.specs.Sets.{single, allBelow, Below, partOf, mostRoles}
-use Rattle.roles.proofs.Tests.{T-and, T-or, unlike}
+use Rattle.roles.proofs.Tests.{T?, T-and, T-or, T-true, unlike}
 use Rattle.roles.proofs.Laws.{partOf-allBelow}
 use Rattle.refusals.specs.Refusals.{refusal}
 use Rattle.refusals.proofs.Laws.{refuse-has}
@@ -22,9 +22,9 @@ use Rattle.meaning.specs.Rows.{Row, blank, fits, contradicts, step, unchanged, 
 use Rattle.meaning.proofs.Answers.{settle-contradicts, settle-records, settle-overflows}
 use Rattle.meaning.proofs.Theorems.{ask-some, ask-none, ask-most}
 use Rattle.area.specs.Layout.{mostRows, areaBytes, goodBytes}
-use Rattle.area.specs.State.{State, opened, isBlank, rowFor, withRow, stateOf}
+use Rattle.area.specs.State.{State, opened, inPolicy, isBlank, rowFor, withRow, stateOf}
 use Rattle.area.proofs.Bytes.{good-state}
-use Rattle.calls.specs.Calls.{Out, stays, writes, valid, fitsIn, areaRefusals, lastKind, happened, settledIn, eventIn, eventOf, openOf, decideOf, forgetOf}
+use Rattle.calls.specs.Calls.{Out, stays, writes, valid, isState, fitsIn, areaRefusals, lastKind, happened, due, isLate, isAhead, settledIn, eventIn, eventOf, openOf, decideOf, forgetOf}
 
 pub valid-law : (p : ℕ) → T (valid p) ↔ ((1 ≤ p) × (p ≤ lastPermission))
 valid-law p = (
@@ -34,26 +34,26 @@ valid-law p = (
 
 -- ---- opening
 
-module _ (l : List ℕ) (n : ℕ) where
-  pub open-bad-area : eqb (length l) areaBytes ≡ false → openOf l n ≡ stays 1 l
+module _ (l : List ℕ) (n g : ℕ) where
+  pub open-bad-area : eqb (length l) areaBytes ≡ false → openOf l n g ≡ stays 1 l
   unfolding openOf
   open-bad-area h = rw h
 
-  pub open-bad-count : eqb (length l) areaBytes ≡ true → (leb 1 n && leb n mostRoles) ≡ false → openOf l n ≡ stays 2 l
+  pub open-bad-count : eqb (length l) areaBytes ≡ true → (leb 1 n && leb n mostRoles) ≡ false → openOf l n g ≡ stays 2 l
   unfolding openOf
   open-bad-count h k = rw (h, k)
 
-  pub open-recorded : eqb (length l) areaBytes ≡ true → (leb 1 n && leb n mostRoles) ≡ true → openOf l n ≡ writes 0 (opened n)
+  pub open-recorded : eqb (length l) areaBytes ≡ true → (leb 1 n && leb n mostRoles) ≡ true → openOf l n g ≡ writes 0 (opened n g)
   unfolding openOf
   open-recorded h k = rw (h, k)
 
   -- answered 0 it leaves no rows
-  pub open-law : openOf l n .answer ≡ 0 → (openOf l n ≡ writes 0 (opened n)) × T (leb 1 n && leb n mostRoles)
+  pub open-law : openOf l n g .answer ≡ 0 → (openOf l n g ≡ writes 0 (opened n g)) × T (leb 1 n && leb n mostRoles)
   unfolding openOf
   open-law = go (not (eqb (length l) areaBytes)) (leb 1 n && leb n mostRoles)
     where
-      go : (a b : Bool) → cond a (stays 1 l) (cond (not b) (stays 2 l) (writes 0 (opened n))) .answer ≡ 0
-          → (cond a (stays 1 l) (cond (not b) (stays 2 l) (writes 0 (opened n))) ≡ writes 0 (opened n)) × T b
+      go : (a b : Bool) → cond a (stays 1 l) (cond (not b) (stays 2 l) (writes 0 (opened n g))) .answer ≡ 0
+          → (cond a (stays 1 l) (cond (not b) (stays 2 l) (writes 0 (opened n g))) ≡ writes 0 (opened n g)) × T b
       go true b e = unlike tt e
       go false false e = unlike tt e
       go false true e = (refl, tt)
@@ -69,6 +69,11 @@ fitsIn-law s p w h =
           (λ t. absurd (⊎-elim (λ u. subst (λ (x : Bool). T (not x)) a u) (λ u. subst T b u) (T-or (not (isBlank (rowFor p (s .rows)))) (isBlank w) .0 t)))
           (T-or (ltb (length (s .rows)) mostRows) (not (isBlank (rowFor p (s .rows))) || isBlank w) .0 (q .1)),
     )
+
+-- in any policy state
+pub fitsIn-policy : (s : State) (g p : ℕ) (w : Row) → fitsIn (inPolicy g s) p w ≡ fitsIn s p w
+unfolding fitsIn
+fitsIn-policy s g p w = refl
 
 pub unfit : (s : State) (p : ℕ) (w : Row) → fits w ≡ false → fitsIn s p w ≡ false
 unfolding fitsIn
@@ -102,15 +107,15 @@ module _ (s : State) (p : ℕ) (v : Row) (f : fits v ≡ true) where
       ∙ ap (λ (b : Bool). b || (not (isBlank (rowFor p (s .rows))) || isBlank v)) (le-ltb (length (s .rows)) mostRows m)
       ∙ ap (λ (b : Bool). not b || isBlank v) h ∙ k
 
--- ---- an event of known roles on a good area
+-- ---- an event of known roles that counts on a good area
 
 -- on an area l that holds s, where w is the row of p
 unfoldable pub eventOn : List ℕ → State → ℕ → Happening → Row → Out
 eventOn l s p e w = settledIn l s p (settle (fitsIn s p) e w)
 
-pub event-in : (l : List ℕ) (p : ℕ) (e : Happening) → eventIn l p e ≡ eventOn l (stateOf l) p e (rowFor p (stateOf l .rows))
+pub event-in : (l : List ℕ) (p : ℕ) (e : Happening) (g : ℕ) → eventIn l p e g ≡ eventOn l (inPolicy g (stateOf l)) p e (rowFor p (stateOf l .rows))
 unfolding eventIn eventOn
-event-in l p e = refl
+event-in l p e g = refl
 
 module _ (l : List ℕ) (s : State) (p : ℕ) (e : Happening) (w : Row) where
   pub event-contradicts : contradicts e w ≡ true → eventOn l s p e w ≡ stays 6 l
@@ -131,29 +136,55 @@ module _ (l : List ℕ) (s : State) (p : ℕ) (e : Happening) (w : Row) where
 
 -- ---- an event as its numbers say it
 
-module _ (l : List ℕ) (p k x : ℕ) where
-  pub event-bad-area : goodBytes l ≡ false → eventOf l p k x ≡ stays 1 l
+module _ (l : List ℕ) (p k x g : ℕ) where
+  pub event-bad-area : goodBytes l ≡ false → eventOf l p k x g ≡ stays 1 l
   unfolding eventOf
   event-bad-area h = rw h
 
   module _ (h : goodBytes l ≡ true) where
-    pub event-no-permission : valid p ≡ false → eventOf l p k x ≡ stays 3 l
+    pub event-no-permission : valid p ≡ false → eventOf l p k x g ≡ stays 3 l
     unfolding eventOf
     event-no-permission v = rw (h, v)
 
     module _ (v : valid p ≡ true) where
-      pub event-bad-kind : leb k lastKind ≡ false → eventOf l p k x ≡ stays 5 l
+      pub event-bad-kind : leb k lastKind ≡ false → eventOf l p k x g ≡ stays 5 l
       unfolding eventOf
       event-bad-kind u = rw (h, v, u)
 
       module _ (u : leb k lastKind ≡ true) where
-        pub event-unknown : known (stateOf l .roles) (happened k x) ≡ false → eventOf l p k x ≡ stays 4 l
+        pub event-unknown : known (stateOf l .roles) (happened k x) ≡ false → eventOf l p k x g ≡ stays 4 l
         unfolding eventOf
         event-unknown n = rw (h, v, u, n)
 
-        pub event-known : known (stateOf l .roles) (happened k x) ≡ true → eventOf l p k x ≡ eventIn l p (happened k x)
-        unfolding eventOf
-        event-known n = rw (h, v, u, n)
+        module _ (n : known (stateOf l .roles) (happened k x) ≡ true) where
+          pub event-late : isLate (happened k x) (stateOf l .policy) g ≡ true → eventOf l p k x g ≡ stays 13 l
+          unfolding eventOf
+          event-late t = rw (h, v, u, n, t)
+
+          module _ (t : isLate (happened k x) (stateOf l .policy) g ≡ false) where
+            pub event-ahead : isAhead (happened k x) (stateOf l .policy) g ≡ true → eventOf l p k x g ≡ stays 14 l
+            unfolding eventOf
+            event-ahead a = rw (h, v, u, n, t, a)
+
+            pub event-counts : isAhead (happened k x) (stateOf l .policy) g ≡ false → eventOf l p k x g ≡ eventIn l p (happened k x) g
+            unfolding eventOf
+            event-counts a = rw (h, v, u, n, t, a)
+
+-- ---- which events count
+
+module _ (e : Happening) (i g : ℕ) where
+  pub due-counts : isLate e i g ≡ false → isAhead e i g ≡ false → (g ≡ due e i) × T (isState g)
+  due-counts t a =
+      let x : ¬ (g < due e i) = λ u. let z : _≡_ {A = ℕ} 0 1 = cc (lt-ltb g (due e i) u) in omega arith in
+      let y : ¬ (due e i < g) = λ u. T-not (isAhead e i g) (subst⁻¹ (λ (b : Bool). T (not b)) a tt) (T-or (ltb (due e i) g) (not (isState g)) .1 (inl (subst⁻¹ T (lt-ltb (due e i) g u) tt))) in
+      let s : T (isState g) = ⊎-elim (λ u. u) (λ u. absurd (T-not (isAhead e i g) (subst⁻¹ (λ (b : Bool). T (not b)) a tt) (T-or (ltb (due e i) g) (not (isState g)) .1 (inr u)))) (T? (isState g)) in
+      (omega (arith, x, y), s)
+
+  pub due-not-late : g ≡ due e i → isLate e i g ≡ false
+  due-not-late q = le-ltb g (due e i) (omega arith)
+
+  pub due-not-ahead : g ≡ due e i → T (isState g) → isAhead e i g ≡ false
+  due-not-ahead q s = rw (le-ltb (due e i) g (omega arith), T-true (isState g) s)
 
 -- from 3 on, of which the call takes 3 alone
 pub given-kind : (k x : ℕ) → (k ≡ 0 → ⊥) → (k ≡ 1 → ⊥) → (k ≡ 2 → ⊥) → happened k x ≡ Given x

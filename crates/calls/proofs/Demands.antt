@@ -17,11 +17,20 @@ demand-1 = grounds.demand-1
 pub forgetting : demands.Forgetting
 forgetting = forgets.forgetting
 
+pub header : demands.Header
+header = decisions.header
+
 pub kinds : demands.Kinds
 kinds = streams.kinds
 
 pub demand-2 : demands.Demand2
 demand-2 = decisions.demand-2
+
+pub in-time : demands.InTime
+in-time = decisions.in-time
+
+pub as-it-came : demands.AsItCame
+as-it-came = decisions.as-it-came
 
 pub whom : demands.Whom
 whom = decisions.whom

@@ -1,15 +1,15 @@
 -- Demand 1: each answer exactly on its ground. Assumes nothing.
 use mathlib.Core.Path.{_≡_, refl, ap, _∙_, subst⁻¹}
-use mathlib.Core.Bool.{Bool, true, false, not, cond, _&&_}
+use mathlib.Core.Bool.{Bool, true, false, not, cond, _&&_, _||_}
 use mathlib.Core.List.{List, [], _∷_}
 use mathlib.Core.Logic.{_↔_, _≢_, inl, inr, ⊎-elim}
-use Prim.Native.Nat.{ℕ, _^_, _≤_, _<_}
+use Prim.Native.Nat.{ℕ, suc, _^_, _≤_, _<_}
 use native.Mathlib.Omega.{arith}
 use borrow.Author.Tests.{eq-eqb, ne-eqb}
-use lib.Dec.{T, T-not, not-T, eqb, leb, eqb→eq, leb→le, le→leb, nleb→lt}
+use lib.Dec.{T, T-not, not-T, eqb, ltb, leb, eqb→eq, ltb→lt, lt→ltb, leb→le, le→leb, nleb→lt}
 use lib.ListN.{length}
 use Rattle.roles.specs.Sets.{single, allBelow, partOf, mostRoles}
-use Rattle.roles.proofs.Tests.{T?, T-and, T-true, T-false, not-test}
+use Rattle.roles.proofs.Tests.{T?, T-and, T-or, T-true, T-false, not-test}
 use Rattle.roles.proofs.Laws.{partOf-allBelow, single-below, below-single}
 use Rattle.refusals.specs.Refusals.{Refusal, refusal, refuse, Ground, ground, Exactly}
 use Rattle.refusals.proofs.Laws.{lacks, distinct, Tests, refuse-has, refuse-exactly}
@@ -19,11 +19,11 @@ use Rattle.meaning.specs.Rows.{Row, blank, contradicts, step, fits, bare, decid
 use Rattle.meaning.proofs.Answers.{fits-law}
 use Rattle.meaning.proofs.Theorems.{one-of-three}
 use Rattle.area.specs.Layout.{mostRows, areaBytes, goodBytes}
-use Rattle.area.specs.State.{State, opened, isBlank, rowFor, withRow, stateOf}
-use Rattle.calls.specs.Calls.{Out, stays, writes, valid, fitsIn, openRefusals, areaRefusals, lastKind, happened, eventRefusals, eventOf, openOf, decideOf, forgetOf}
+use Rattle.area.specs.State.{State, opened, inPolicy, isBlank, rowFor, withRow, stateOf}
+use Rattle.calls.specs.Calls.{Out, stays, writes, valid, isState, fitsIn, openRefusals, areaRefusals, lastKind, happened, isLate, isAhead, eventRefusals, eventOf, openOf, decideOf, forgetOf}
 use Rattle.calls.specs.Histories.{outOf}
-use Rattle.calls.specs.Demands.{OnGrounds, IsRecorded, areaGrounds, Unknown, NoPlace, noRoom, eventGrounds, Demand1}
-use Rattle.calls.proofs.CallLaws.{valid-law, fitsIn-law, fitsIn-over, fitsIn-blank, fitsIn-room, eventOn, event-in, event-contradicts, event-unfit, event-recorded, reply-kind, roles-kind}
+use Rattle.calls.specs.Demands.{OnGrounds, IsRecorded, areaGrounds, Unknown, Late, Ahead, NoPlace, noRoom, eventGrounds, Demand1}
+use Rattle.calls.proofs.CallLaws.{valid-law, fitsIn-law, fitsIn-policy, fitsIn-over, fitsIn-blank, fitsIn-room, eventOn, event-in, event-contradicts, event-unfit, event-recorded, reply-kind, roles-kind}
 
 -- ---- what the tests say
 
@@ -56,6 +56,38 @@ unknown-event n k x = rw (roles-kind k x) (go (leb k 1) refl)
     go false e =
         let many : 1 < k = nleb→lt k 1 (subst⁻¹ (λ (b : Bool). T (not b)) e tt) in
         ((λ t. inr (many, unknown-role n x .0 t)), ⊎-elim (λ u. absurd (let few : k ≤ 1 = u .0 in let z : ⊥ = omega arith in z)) (λ u. unknown-role n x .1 (u .1)))
+
+-- before the state that is due, and after it
+pub late-event : (k x i g : ℕ) → T (isLate (happened k x) i g) ↔ Late k i g
+late-event k x i g = rw (reply-kind k x) (go (leb k 1) refl)
+  where
+    go : (b : Bool) → leb k 1 ≡ b → T (ltb g (cond b i (suc i))) ↔ Late k i g
+    go true e =
+        let few : k ≤ 1 = leb→le k 1 (subst⁻¹ T e tt) in
+        ((λ t. inl (few, ltb→lt g i t)), ⊎-elim (λ u. lt→ltb g i (u .1)) (λ u. absurd (let many : 1 < k = u .0 in let z : ⊥ = omega arith in z)))
+    go false e =
+        let many : 1 < k = nleb→lt k 1 (subst⁻¹ (λ (b : Bool). T (not b)) e tt) in (
+          (λ t. inr (many, let h : g < suc i = ltb→lt g (suc i) t in omega arith)),
+          ⊎-elim (λ u. absurd (let few : k ≤ 1 = u .0 in let z : ⊥ = omega arith in z)) (λ u. lt→ltb g (suc i) (let h : g ≤ i = u .1 in omega arith)),
+        )
+
+pub ahead-event : (k x i g : ℕ) → T (isAhead (happened k x) i g) ↔ Ahead k i g
+ahead-event k x i g = rw (reply-kind k x) (go (leb k 1) refl)
+  where
+    no-state : T (not (isState g)) ↔ (4294967295 < g)
+    no-state = ((λ t. nleb→lt g 4294967295 t), λ h. not-T (isState g) (λ t. let u : g ≤ 4294967295 = leb→le g 4294967295 t in omega arith))
+
+    go : (b : Bool) → leb k 1 ≡ b → T (ltb (cond b i (suc i)) g || not (isState g)) ↔ Ahead k i g
+    go true e =
+        let few : k ≤ 1 = leb→le k 1 (subst⁻¹ T e tt) in (
+          (λ t. ⊎-elim (λ u. inl (few, ltb→lt i g u)) (λ u. inr (inr (no-state .0 u))) (T-or (ltb i g) (not (isState g)) .0 t)),
+          λ a. T-or (ltb i g) (not (isState g)) .1 (⊎-elim (λ u. inl (lt→ltb i g (u .1))) (⊎-elim (λ u. absurd (let many : 1 < k = u .0 in let z : ⊥ = omega arith in z)) (λ u. inr (no-state .1 u))) a),
+        )
+    go false e =
+        let many : 1 < k = nleb→lt k 1 (subst⁻¹ (λ (b : Bool). T (not b)) e tt) in (
+          (λ t. ⊎-elim (λ u. inr (inl (many, ltb→lt (suc i) g u))) (λ u. inr (inr (no-state .0 u))) (T-or (ltb (suc i) g) (not (isState g)) .0 t)),
+          λ a. T-or (ltb (suc i) g) (not (isState g)) .1 (⊎-elim (λ u. absurd (let few : k ≤ 1 = u .0 in let z : ⊥ = omega arith in z)) (⊎-elim (λ u. inl (lt→ltb (suc i) g (u .1))) (λ u. inr (no-state .1 u))) a),
+        )
 
 module _ (s : State) (p : ℕ) (w : Row) where
   -- where a row that is not too long has no place, it would be a new one, and 128 are used
@@ -96,9 +128,13 @@ recorded l s x y = absurd (x refl)
 area-tests : (l : List ℕ) (p : ℕ) (rs : List Refusal) (gs : List Ground) → Tests rs gs → Tests (areaRefusals l p rs) (areaGrounds l p gs)
 area-tests l p rs gs t = (refl, not-test (goodBytes l) (T (goodBytes l)) ((λ x. x), (λ x. x)), (refl, not-test (valid p) _ (valid-law p), t))
 
-module _ (l : List ℕ) (p k x : ℕ) where
+module _ (l : List ℕ) (p k x g : ℕ) where
+  -- the area's state; the one that an event that counts leaves it in
   abbrev s : State
   s = stateOf l
+
+  abbrev s′ : State
+  s′ = inPolicy g (stateOf l)
 
   abbrev w : Row
   w = rowFor p (stateOf l .rows)
@@ -106,15 +142,15 @@ module _ (l : List ℕ) (p k x : ℕ) where
   abbrev e : Happening
   e = happened k x
 
-  -- 8 takes the row away, the others leave every byte
+  -- 8 takes the row away and moves the state, the others leave every byte
   left : ℕ → Out
-  left a = cond (eqb a 8) (writes a (withRow s p blank)) (stays a l)
+  left a = cond (eqb a 8) (writes a (withRow s′ p blank)) (stays a l)
 
   left-says : (a : ℕ) → left a .answer ≡ a
   unfolding left
   left-says a = go (eqb a 8)
     where
-      go : (b : Bool) → cond b (writes a (withRow s p blank)) (stays a l) .answer ≡ a
+      go : (b : Bool) → cond b (writes a (withRow s′ p blank)) (stays a l) .answer ≡ a
       go true = refl
       go false = refl
 
@@ -127,38 +163,63 @@ module _ (l : List ℕ) (p k x : ℕ) where
   own =
       refusal 5 (not (leb k lastKind))
       ∷ refusal 4 (not (known (stateOf l .roles) e))
+      ∷ refusal 13 (isLate e (stateOf l .policy) g)
+      ∷ refusal 14 (isAhead e (stateOf l .policy) g)
       ∷ refusal 6 (contradicts e w)
       ∷ refusal (cond (isReply e) 7 8) (not (fitsIn (stateOf l) p (step e w)))
       ∷ []
 
   abbrev own-grounds : List Ground
-  own-grounds = ground 5 (3 < k) ∷ ground 4 (Unknown (s .roles) k x) ∷ ground 6 (T (contradicts e w)) ∷ ground (noRoom k) (NoPlace s p (step e w)) ∷ []
+  own-grounds =
+      ground 5 (3 < k)
+      ∷ ground 4 (Unknown (s .roles) k x)
+      ∷ ground 13 (Late k (s .policy) g)
+      ∷ ground 14 (Ahead k (s .policy) g)
+      ∷ ground 6 (T (contradicts e w))
+      ∷ ground (noRoom k) (NoPlace s p (step e w))
+      ∷ []
 
-  one-list : eventOf l p k x ≡ refuse (areaRefusals l p own) left (writes 0 (withRow s p (step e w)))
+  one-list : eventOf l p k x g ≡ refuse (areaRefusals l p own) left (writes 0 (withRow s′ p (step e w)))
   unfolding eventOf left
-  one-list = ap (λ (o : Out). refuse (eventRefusals l p k e) (λ a. stays a l) o) (event-in l p e ∙ go (contradicts e w) refl (fitsIn s p (step e w)) refl)
+  one-list = ap (λ (o : Out). refuse (eventRefusals l p k e g) (λ a. stays a l) o) (event-in l p e g ∙ go (contradicts e w) refl (fitsIn s p (step e w)) refl)
     where
-      unfit : (r : Bool) → cond r (stays 7 l) (writes 8 (withRow s p blank)) ≡ left (cond r 7 8)
+      unfit : (r : Bool) → cond r (stays 7 l) (writes 8 (withRow s′ p blank)) ≡ left (cond r 7 8)
       unfit true = refl
       unfit false = refl
 
       go : (c : Bool) → contradicts e w ≡ c → (f : Bool) → fitsIn s p (step e w) ≡ f
-          → eventOn l s p e w ≡ cond c (left 6) (cond (not f) (left (cond (isReply e) 7 8)) (writes 0 (withRow s p (step e w))))
-      go true c f q = event-contradicts l s p e w c
-      go false c true q = event-recorded l s p e w c q
-      go false c false q = event-unfit l s p e w c q ∙ unfit (isReply e)
+          → eventOn l s′ p e w ≡ cond c (left 6) (cond (not f) (left (cond (isReply e) 7 8)) (writes 0 (withRow s′ p (step e w))))
+      go true c f q = event-contradicts l s′ p e w c
+      go false c true q = event-recorded l s′ p e w c (fitsIn-policy s g p (step e w) ∙ q)
+      go false c false q = event-unfit l s′ p e w c (fitsIn-policy s g p (step e w) ∙ q) ∙ unfit (isReply e)
 
-  event-answers : OnGrounds l (eventOf l p k x) (eventGrounds l p k x) IsRecorded
+  event-answers : OnGrounds l (eventOf l p k x g) (eventGrounds l p k x g) IsRecorded
   event-answers =
-      subst⁻¹ (λ (o : Out). OnGrounds l o (eventGrounds l p k x) IsRecorded) one-list
-      (on-grounds l left left-says left-alone IsRecorded (writes 0 (withRow s p (step e w))) refl (recorded l (withRow s p (step e w)))
-      (areaRefusals l p own) (eventGrounds l p k x)
-      (area-tests l p own own-grounds (refl, bad-kind k, (refl, unknown-event (s .roles) k x, (refl, ((λ t. t), (λ t. t)), (ap (λ (b : Bool). cond b 7 8) (reply-kind k x), no-place s p (step e w), tt)))))
+      subst⁻¹ (λ (o : Out). OnGrounds l o (eventGrounds l p k x g) IsRecorded) one-list
+      (on-grounds l left left-says left-alone IsRecorded (writes 0 (withRow s′ p (step e w))) refl (recorded l (withRow s′ p (step e w)))
+      (areaRefusals l p own) (eventGrounds l p k x g)
+      (area-tests l p own own-grounds (
+        refl,
+        bad-kind k,
+        (
+          refl,
+          unknown-event (s .roles) k x,
+          (
+            refl,
+            late-event k x (s .policy) g,
+            (
+              refl,
+              ahead-event k x (s .policy) g,
+              (refl, ((λ t. t), (λ t. t)), (ap (λ (b : Bool). cond b 7 8) (reply-kind k x), no-place s p (step e w), tt)),
+            ),
+          ),
+        ),
+      ))
       (all-distinct (isReply e)) (none-zero (isReply e)))
     where
       -- whether it is 7 or 8, no other refusal has the number
       of : (b : Bool) → List Refusal
-      of b = areaRefusals l p (refusal 5 true ∷ refusal 4 true ∷ refusal 6 true ∷ refusal (cond b 7 8) true ∷ [])
+      of b = areaRefusals l p (refusal 5 true ∷ refusal 4 true ∷ refusal 13 true ∷ refusal 14 true ∷ refusal 6 true ∷ refusal (cond b 7 8) true ∷ [])
 
       all-distinct : (b : Bool) → T (distinct (of b))
       all-distinct true = tt
@@ -188,7 +249,7 @@ module _ (l : List ℕ) where
 pub demand-1 : Demand1
 unfolding openOf forgetOf outOf
 demand-1 = record {
-  open-answers = λ l n. staying l IsRecorded (writes 0 (opened n)) refl (recorded l (opened n)) (openRefusals l n) _ (
+  open-answers = λ l n g. staying l IsRecorded (writes 0 (opened n g)) refl (recorded l (opened n g)) (openRefusals l n) _ (
     refl,
     not-test (eqb (length l) areaBytes) (length l ≡ areaBytes) (eqb→eq (length l) areaBytes, (λ e. subst⁻¹ T (eq-eqb (length l) areaBytes e) tt)),
     (refl, not-test (leb 1 n && leb n mostRoles) _ (among 1 mostRoles n), tt),

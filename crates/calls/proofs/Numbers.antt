@@ -6,7 +6,7 @@ use lib.Dec.{eqb}
 use Rattle.meaning.specs.Rows as meaning
 use Rattle.calls.specs.declared.Answer.{Answer}
 use Rattle.calls.specs.declared.Decided.{Decided}
-use Rattle.calls.specs.declared.Answer.the-variants.{Recorded, BadArea, BadRoleCount, NoPermission, UnknownRole, BadVerdict, Contradiction, Full, Forgotten, Unreadable, Deny, Allow, Undecided}
+use Rattle.calls.specs.declared.Answer.the-variants.{Recorded, BadArea, BadRoleCount, NoPermission, UnknownRole, BadVerdict, Contradiction, Full, Forgotten, Unreadable, Deny, Allow, Undecided, Late, Ahead}
 use Rattle.calls.specs.Answers.{numberOf, decidedOf}
 use Rattle.calls.specs.Demands as demands
 
@@ -14,7 +14,8 @@ use Rattle.calls.specs.Demands as demands
 answerOf : ℕ → Answer
 answerOf a =
     cond (eqb a 0) Recorded (cond (eqb a 1) BadArea (cond (eqb a 2) BadRoleCount (cond (eqb a 3) NoPermission (cond (eqb a 4) UnknownRole (cond (eqb a 5) BadVerdict
-    (cond (eqb a 6) Contradiction (cond (eqb a 7) Full (cond (eqb a 8) Forgotten (cond (eqb a 9) Unreadable (cond (eqb a 10) Deny (cond (eqb a 11) Allow Undecided)))))))))))
+    (cond (eqb a 6) Contradiction (cond (eqb a 7) Full (cond (eqb a 8) Forgotten (cond (eqb a 9) Unreadable (cond (eqb a 10) Deny (cond (eqb a 11) Allow
+    (cond (eqb a 12) Undecided (cond (eqb a 13) Late Ahead)))))))))))))
 
 answer-back : (r : Answer) → answerOf (numberOf r) ≡ r
 unfolding answerOf
@@ -31,6 +32,8 @@ answer-back Unreadable = refl
 answer-back Deny = refl
 answer-back Allow = refl
 answer-back Undecided = refl
+answer-back Late = refl
+answer-back Ahead = refl
 
 pub one-outcome : demands.OneOutcome
 one-outcome o r s l m g h = (sym (answer-back r) ∙ ap answerOf (g .answer ∙ sym (h .answer)) ∙ answer-back s, g .area ∙ sym (h .area))

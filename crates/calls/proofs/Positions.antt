@@ -1,4 +1,4 @@
--- Streams whose positions correspond, where only replies pass each other, are rearranged: the events of fs are pulled out of es one by one,
+-- Streams whose positions correspond, where only replies pass each other, are alike: the events of fs are pulled out of es one by one,
 -- each past those that stand before it. Assumes nothing.
 use mathlib.Core.Path.{_≡_, refl, sym, ap, _∙_, subst, subst⁻¹}
 use mathlib.Core.Bool.{Bool, true, false, cond, _&&_, and-false}
@@ -12,8 +12,8 @@ use Rattle.roles.proofs.Tests.{T?, T-and, T-ext, T-true, T-false}
 use Rattle.meaning.specs.declared.Event.{Event}
 use Rattle.meaning.specs.declared.Happening.{Happening}
 use Rattle.meaning.specs.Events.{Reply, isReply}
-use Rattle.calls.specs.Histories.{At, Moved}
-use Rattle.calls.proofs.Streams.{eventsOf, Swapped, same, first, swap, further, Rearranged}
+use Rattle.calls.specs.Histories.{At, Rearranged, KeepsOrder}
+use Rattle.calls.proofs.Streams.{eventsOf, Swapped, same, first, swap, further, Alike}
 
 both : (a b : Bool) → ¬ (¬ (T a × T b)) → T a × T b
 both true true h = (tt, tt)
@@ -115,12 +115,12 @@ module _ (p : ℕ) where
         let w = gather (fewer b f fs l) fs (later b f fs l) in
         further (out-first b f fs l) (passes (f .happening) (f .happening) _ _ (eqb (f .permission) p) false (λ k m. absurd m) w)
 
-pub by-positions : (es fs : List Event) → Moved es fs → Rearranged es fs
-by-positions es fs m p =
+pub by-positions : (es fs : List Event) (m : Rearranged es fs) → KeepsOrder es (m .to) → Alike es fs
+by-positions es fs m o p =
     rw rest-all at (gather p es (λ i. true) fs (record {
       to = m .to;
       from = m .from;
       there = λ i e x y. m .there i e x;
       back = λ j f x. (m .back j f x .0, m .back j f x .1, tt);
-      order = λ i j e f x y q r n u v. m .order i j e f x y q r n;
+      order = λ i j e f x y q r n u v. o i j e f x y r n;
     }))

@@ -9,7 +9,7 @@ use Rattle.meaning.specs.Rows as meaning
 use Rattle.calls.specs.Calls.{Out}
 use Rattle.calls.specs.declared.Answer.{Answer}
 use Rattle.calls.specs.declared.Decided.{Decided}
-use Rattle.calls.specs.declared.Answer.the-variants.{Recorded, BadArea, BadRoleCount, NoPermission, UnknownRole, BadVerdict, Contradiction, Full, Forgotten, Unreadable, Deny, Allow, Undecided}
+use Rattle.calls.specs.declared.Answer.the-variants.{Recorded, BadArea, BadRoleCount, NoPermission, UnknownRole, BadVerdict, Contradiction, Full, Forgotten, Unreadable, Deny, Allow, Undecided, Late, Ahead}
 
 abbrev pub numberOf : Answer → ℕ
 numberOf Recorded = 0
@@ -25,6 +25,8 @@ numberOf Unreadable = 9
 numberOf Deny = 10
 numberOf Allow = 11
 numberOf Undecided = 12
+numberOf Late = 13
+numberOf Ahead = 14
 
 pub record Gives (o : Out) (r : Answer) (l : List ℕ) : Type 0 where
   pub answer : numberOf r ≡ o .answer

@@ -1,28 +1,30 @@
 -- The calls: what each answers, and the bytes of the lent area after it, as the table of Rules, Answers, reads; what decide gives.
 --     Out                   an answer with the bytes afterwards
 --     stays a l, writes a s the answer a, and the bytes l, or those of the state s
---     valid p               p is a permission, 1 to 4,294,967,295
+--     valid p, isState g    p is a permission, 1 to 4,294,967,295; g is a policy state, 0 to 4,294,967,295
 --     fitsIn s p w          w fits as the row of p: at most 15 open sets, and where it would be a new row, fewer than 128 are used
 --     openRefusals, areaRefusals    the refusals of open, those that every other call begins with
 --     lastKind, happened k x        kinds are 0 to this one; what happened, as kind and number say it
+--     due e i               the policy state in which the event e counts on an area in state i: a reply in that state, an update in the next
+--     isLate, isAhead e i g it names a state g before that one; after it
 --     eventRefusals         the refusals of an event before its row is looked at
 --     settledIn l s p t     t is the answer to an event on the row of p: 0 and 8 put the row in its place, 6 and 7 leave every byte
---     eventIn l p e         an event of known roles on a good area
---     openOf, eventOf, forgetOf    the calls, refusals in the order 1, 2, 3, 5, 4, 6, then 7 or 8
+--     eventIn l p e g       an event of known roles that counts on a good area, whose policy state is then the one that it names
+--     openOf, eventOf, forgetOf    the calls, refusals in the order 1, 2, 3, 5, 4, 13, 14, 6, then 7 or 8
 --     decideOf              decide, refusals in the order 1, 3, 4: an answer and a role, 64 with each refusal; the bytes are only read
 use mathlib.Core.Bool.{Bool, not, cond, _&&_, _||_}
 use mathlib.Core.List.{List, [], _∷_}
-use Prim.Native.Nat.{ℕ}
+use Prim.Native.Nat.{ℕ, suc}
 use lib.Dec.{eqb, ltb, leb}
 use lib.ListN.{length}
 use Rattle.roles.specs.Sets.{allBelow, partOf, mostRoles}
 use Rattle.refusals.specs.Refusals.{Refusal, refusal, refuse}
 use Rattle.meaning.specs.declared.Happening.{Happening}
 use Rattle.meaning.specs.declared.Happening.the-variants.{Allow, Deny, Given, Withdrawn}
-use Rattle.meaning.specs.Events.{known, lastPermission}
+use Rattle.meaning.specs.Events.{known, lastPermission, lastPolicyState, isReply}
 use Rattle.meaning.specs.Rows.{Row, blank, fits, Settled, settle, Decided, bare, decide}
 use Rattle.area.specs.Layout.{mostRows, areaBytes, goodBytes}
-use Rattle.area.specs.State.{State, opened, isBlank, rowFor, withRow, stateOf, areaOf}
+use Rattle.area.specs.State.{State, opened, inPolicy, isBlank, rowFor, withRow, stateOf, areaOf}
 
 pub record Out : Type 0 where
   pub answer : ℕ
@@ -37,6 +39,9 @@ writes a s = record { answer = a; area = areaOf s }
 abbrev pub valid : ℕ → Bool
 valid p = leb 1 p && leb p lastPermission
 
+abbrev pub isState : ℕ → Bool
+isState g = leb g lastPolicyState
+
 unfoldable pub fitsIn : State → ℕ → Row → Bool
 fitsIn s p w = fits w && (ltb (length (s .rows)) mostRows || (not (isBlank (rowFor p (s .rows))) || isBlank w))
 
@@ -45,8 +50,8 @@ fitsIn s p w = fits w && (ltb (length (s .rows)) mostRows || (not (isBlank (rowF
 abbrev pub openRefusals : List ℕ → ℕ → List Refusal
 openRefusals l n = refusal 1 (not (eqb (length l) areaBytes)) ∷ refusal 2 (not (leb 1 n && leb n mostRoles)) ∷ []
 
-unfoldable pub openOf : List ℕ → ℕ → Out
-openOf l n = refuse (openRefusals l n) (λ a. stays a l) (writes 0 (opened n))
+unfoldable pub openOf : List ℕ → ℕ → ℕ → Out
+openOf l n g = refuse (openRefusals l n) (λ a. stays a l) (writes 0 (opened n g))
 
 -- ---- the other calls begin with: bad area, no permission
 
@@ -66,19 +71,36 @@ happened k x =
     (cond (eqb k 2) (Withdrawn x)
     (Given x)))
 
--- a kind that is none, an unknown role
-abbrev pub eventRefusals : List ℕ → ℕ → ℕ → Happening → List Refusal
-eventRefusals l p k e = areaRefusals l p (refusal 5 (not (leb k lastKind)) ∷ refusal 4 (not (known (stateOf l .roles) e)) ∷ [])
+abbrev pub due : Happening → ℕ → ℕ
+due e i = cond (isReply e) i (suc i)
+
+abbrev pub isLate : Happening → ℕ → ℕ → Bool
+isLate e i g = ltb g (due e i)
+
+-- a number that is no policy state is after them all
+abbrev pub isAhead : Happening → ℕ → ℕ → Bool
+isAhead e i g = ltb (due e i) g || not (isState g)
+
+-- a kind that is none, an unknown role, a state too early, a state too late
+abbrev pub eventRefusals : List ℕ → ℕ → ℕ → Happening → ℕ → List Refusal
+eventRefusals l p k e g =
+    areaRefusals l p (
+    refusal 5 (not (leb k lastKind))
+    ∷ refusal 4 (not (known (stateOf l .roles) e))
+    ∷ refusal 13 (isLate e (stateOf l .policy) g)
+    ∷ refusal 14 (isAhead e (stateOf l .policy) g)
+    ∷ []
+    )
 
 -- on an area l that holds s
 abbrev pub settledIn : List ℕ → State → ℕ → Settled → Out
 settledIn l s p t = cond (eqb (t .answer) 0 || eqb (t .answer) 8) (writes (t .answer) (withRow s p (t .row))) (stays (t .answer) l)
 
-unfoldable pub eventIn : List ℕ → ℕ → Happening → Out
-eventIn l p e = let s : State = stateOf l in settledIn l s p (settle (fitsIn s p) e (rowFor p (s .rows)))
+unfoldable pub eventIn : List ℕ → ℕ → Happening → ℕ → Out
+eventIn l p e g = let s : State = inPolicy g (stateOf l) in settledIn l s p (settle (fitsIn s p) e (rowFor p (s .rows)))
 
-unfoldable pub eventOf : List ℕ → ℕ → ℕ → ℕ → Out
-eventOf l p k x = refuse (eventRefusals l p k (happened k x)) (λ a. stays a l) (eventIn l p (happened k x))
+unfoldable pub eventOf : List ℕ → ℕ → ℕ → ℕ → ℕ → Out
+eventOf l p k x g = refuse (eventRefusals l p k (happened k x) g) (λ a. stays a l) (eventIn l p (happened k x) g)
 
 -- ---- decisions and forgetting
 

@@ -19,6 +19,8 @@ pub enum Answer {
     Deny,
     Allow,
     Undecided,
+    Late,
+    Ahead,
 }
 
 // What decide gives: its answer, and the role to ask about, which is MOST_ROLES where there is none.
@@ -55,5 +57,7 @@ pub fn number(r: Answer) -> u32
         Answer::Deny => 10,
         Answer::Allow => 11,
         Answer::Undecided => 12,
+        Answer::Late => 13,
+        Answer::Ahead => 14,
     }
 }

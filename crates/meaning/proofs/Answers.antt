@@ -32,6 +32,14 @@ update-agrees (Deny s) w n = absurd (n tt)
 update-agrees (Given r) w n = tt
 update-agrees (Withdrawn r) w n = tt
 
+-- an update contradicts nothing
+pub contradicts-reply : (e : Happening) (w : Row) → T (contradicts e w) → Reply e
+unfolding contradicts
+contradicts-reply (Allow s) w c = tt
+contradicts-reply (Deny s) w c = tt
+contradicts-reply (Given r) w c = absurd c
+contradicts-reply (Withdrawn r) w c = absurd c
+
 -- the answer is one of four, by the two tests and by whether the event is a reply
 pub data Case (fit : Row → Bool) (e : Happening) (w : Row) : Settled → Type 0 where
   refused : T (contradicts e w) → Case fit e w (unchanged 6 w)
