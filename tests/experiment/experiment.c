@@ -13,6 +13,7 @@
 
 enum {
     ROLES = 50,
+    STATE = 0, /* no update comes */
     ROLES_PER_USER = 5,
     MOST_USERS = UNLIMITED_OPENS,
     MOST_PERMISSIONS = 3000,
@@ -109,9 +110,9 @@ static void start(const struct setup *setup)
             same_session[u]++;
     }
     for (size_t k = 0; k < AREAS; k++)
-        if (wickthrush_open(areas[k], sizeof areas[k], ROLES) != WICKTHRUSH_RECORDED)
+        if (wickthrush_open(areas[k], sizeof areas[k], ROLES, STATE) != WICKTHRUSH_RECORDED)
             stop("an area does not open");
-    if (wickthrush_open(one, sizeof one, ROLES) != WICKTHRUSH_RECORDED)
+    if (wickthrush_open(one, sizeof one, ROLES, STATE) != WICKTHRUSH_RECORDED)
         stop("the area does not open");
 }
 
@@ -119,7 +120,7 @@ static void start(const struct setup *setup)
 static bool feed(uint8_t *area, uint32_t permission, bool allowed, uint64_t set)
 {
     enum wickthrush_kind kind = allowed ? WICKTHRUSH_REPLY_ALLOW : WICKTHRUSH_REPLY_DENY;
-    uint32_t answer = wickthrush_event(area, WICKTHRUSH_AREA_BYTES, permission, kind, set);
+    uint32_t answer = wickthrush_event(area, WICKTHRUSH_AREA_BYTES, permission, kind, set, STATE);
     if (answer != WICKTHRUSH_RECORDED && answer != WICKTHRUSH_FULL)
         stop("a reply has another answer than recorded or full");
     return answer == WICKTHRUSH_FULL;

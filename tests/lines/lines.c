@@ -32,7 +32,7 @@ static void shown(char *text, size_t room, const uint8_t *at, size_t count)
     text[used] = 0;
 }
 
-enum { ANSWERS = 13, ROLES = 64 };
+enum { ANSWERS = 15, ROLES = 64 };
 static unsigned long times[ANSWERS], with_role[ANSWERS], asked[ROLES];
 
 /* Answers that were to come, and roles behind them, so that none goes untried. */
@@ -123,7 +123,7 @@ static void random_streams(void)
         group(kinds[k].name);
         for (size_t i = 0; i < runs; i++) {
             clear(&in);
-            putf(&in, "S\nQ 5 1\nA 5 1\nF 5\nx\nO 65\nD 0 1\n");
+            putf(&in, "S\nQ 5 1\nA 5 1 0\nG 5 1 1\nF 5\nx\nO 8\nO 65 0\nD 0 1 0\n");
             for (size_t m = 0; m < kinds[k].streams / 8; m++)
                 kinds[k].put(&in, kinds[k].lines);
             compare(&in, from_file);
@@ -141,7 +141,7 @@ static void bad_lines(void)
         {"lines that are nearly right, and every edge of every field", put_edges},
         {"every short line of a few letters", put_short_lines},
         {"every byte in every place of a line", put_every_byte},
-        {"lines around 200 bytes and up to 100,000", put_long_lines},
+        {"lines around 216 bytes and up to 100,000", put_long_lines},
     };
     for (size_t k = 0; k < sizeof kinds / sizeof kinds[0]; k++) {
         group(kinds[k].name);
@@ -153,18 +153,18 @@ static void bad_lines(void)
     }
 }
 
-/* Of all that can be said, nothing needs more than 194 bytes: longer lines never read. */
+/* Of all that can be said, nothing needs more than 205 bytes: longer lines never read. */
 static void longest_line(void)
 {
     static struct bytes in;
-    group("the longest line that reads has 194 bytes");
+    group("the longest lines that read have 205 bytes, and without a state 194");
     for (const char *letter = "ADQ"; *letter; letter++) {
         clear(&in);
         put_longest(&in, *letter);
-        check(in.count == 194 + 1, "it has %zu", in.count - 1);
+        check(in.count == (*letter == 'Q' ? 194 : 205) + 1, "it has %zu", in.count - 1);
         static struct bytes whole;
         clear(&whole);
-        putf(&whole, "O 64\n");
+        putf(&whole, "O 64 4294967295\n");
         put(&whole, in.at, in.count);
         putf(&whole, "S\n");
         put(&whole, in.at, in.count - 1);
@@ -184,24 +184,24 @@ static void endings(void)
         TEXT("\n\n"),
         TEXT("\n\n\n\n\n\n\n\n\n\n\n"),
         TEXT("S"),
-        TEXT("O 8"),
-        TEXT("O 8\n"),
-        TEXT("O 8\nS"),
-        TEXT("O 8\nS\n"),
-        TEXT("O 8\nS\n\n"),
-        TEXT("O 8\n\nS"),
-        TEXT("\nO 8\nS"),
-        TEXT("O 8\r\nS\r\n"),
-        TEXT("O 8\nS\r\nS"),
+        TEXT("O 8 0"),
+        TEXT("O 8 0\n"),
+        TEXT("O 8 0\nS"),
+        TEXT("O 8 0\nS\n"),
+        TEXT("O 8 0\nS\n\n"),
+        TEXT("O 8 0\n\nS"),
+        TEXT("\nO 8 0\nS"),
+        TEXT("O 8 0\r\nS\r\n"),
+        TEXT("O 8 0\nS\r\nS"),
         TEXT("\r"),
         TEXT("\0"),
         TEXT("\0\n\0"),
-        TEXT("O 8\n\0S\nS\0\nS"),
-        TEXT("O 8\nA 5 1\0\nA 5\0 1\nS"),
-        TEXT("\xff\xfe\nO 8\nS\xff\n\x80\x81\x82\nS"),
-        TEXT("O 8\n "),
-        TEXT("O 8\nx"),
-        TEXT("O 8\nD 5 1\nS\nO 8\nS"),
+        TEXT("O 8 0\n\0S\nS\0\nS"),
+        TEXT("O 8 0\nA 5 1 0\0\nA 5\0 1 0\nS"),
+        TEXT("\xff\xfe\nO 8 0\nS\xff\n\x80\x81\x82\nS"),
+        TEXT("O 8 0\n "),
+        TEXT("O 8 0\nx"),
+        TEXT("O 8 0\nD 5 1 0\nS\nO 8 0\nS"),
 #undef TEXT
     };
     static struct bytes in;
@@ -212,10 +212,10 @@ static void endings(void)
         compare(&in, from_file);
         compare(&in, (struct feed){1, few ? 2 : 6});
     }
-    static const size_t lengths[] = {194, 199, 200, 201, 4096, 65536, 100000};
+    static const size_t lengths[] = {205, 215, 216, 217, 4096, 65536, 100000};
     for (size_t i = 0; i < sizeof lengths / sizeof lengths[0]; i++) {
         clear(&in);
-        putf(&in, "O 8\n");
+        putf(&in, "O 8 0\n");
         put_again(&in, 'x', lengths[i]);
         compare(&in, from_file);
         putf(&in, "\n");
@@ -239,7 +239,7 @@ static void failing_input(void)
     static const struct {
         const char *text;
         size_t times;
-    } held[] = {{"", 1}, {"S", 1}, {"Q 5 1", 1}, {"O 8", 1}, {"x", 1}, {"x", 300}};
+    } held[] = {{"", 1}, {"S", 1}, {"Q 5 1", 1}, {"O 8 0", 1}, {"x", 1}, {"x", 300}};
     static struct bytes in, want;
     group("input that fails within a line: the lines before it are answered, it is not, and the program ends");
     for (size_t i = 0; i < sizeof held / sizeof held[0]; i++) {
@@ -261,7 +261,7 @@ static void failing_input(void)
 static void boundaries(void)
 {
     static const size_t at[] = {4096, 65536, 131072};
-    static const char line[] = "A 5 2,3\nQ 5 2,3,63\nS\n";
+    static const char line[] = "A 5 2,3 0\nQ 5 2,3,63\nS\n";
     static struct bytes in;
     group("lines that lie across 4,096, 65,536 and 131,072 bytes");
     for (size_t k = 0; k < sizeof at / sizeof at[0]; k++) {
@@ -270,7 +270,7 @@ static void boundaries(void)
                 if (few && k == 2 && way != 2)
                     continue;
                 clear(&in);
-                putf(&in, "O 64\n");
+                putf(&in, "O 64 0\n");
                 put_filler(&in, at[k] - back, way);
                 check(in.count == at[k] - back, "the filler has %zu bytes", in.count);
                 putf(&in, "%s", line);
@@ -282,7 +282,7 @@ static void boundaries(void)
 
 static void pieces(void)
 {
-    static const size_t most[] = {1, 2, 3, 7, 61, 200, 201, 4095, 4097, 65535, 65537};
+    static const size_t most[] = {1, 2, 3, 7, 61, 216, 217, 4095, 4097, 65535, 65537};
     static struct bytes in;
     group("input by a pipe, in pieces of 1 to 65,537 bytes with pauses");
     for (size_t i = 0; i < sizeof most / sizeof most[0]; i++) {
@@ -299,35 +299,100 @@ static void pieces(void)
     }
 }
 
-/* Lines and what is printed behind their number, by the Rules alone. */
+/* A line, and what is printed behind its number, by the Rules alone. */
+struct said {
+    const char *line, *printed;
+};
+
+static void put_said(const struct said *lines, size_t count, struct bytes *in, struct bytes *want)
+{
+    clear(in);
+    clear(want);
+    for (size_t i = 0; i < count; i++) {
+        putf(in, "%s\n", lines[i].line);
+        putf(want, "%zu %s\n", i + 1, lines[i].printed);
+    }
+}
+
+/* What counts in which state, and what moves it. */
+static void policy_states(void)
+{
+    static const struct said lines[] = {
+        {"D 5 1 0", "1"},
+        {"O 8 3", "0"},
+        {"A 5 1,2 3", "0"},
+        {"A 5 1,2 2", "13"},
+        {"A 5 1,2 4", "14"},
+        {"G 5 1 3", "13"},
+        {"G 5 1 5", "14"},
+        {"D 5 1 4", "14"},
+        {"G 6 1 4", "0"}, /* another permission's update makes a reply late, and the next timely */
+        {"D 5 1 3", "13"},
+        {"D 5 1 4", "0"},
+        {"Q 5 2", "11"},
+        {"D 5 2 3", "13"},
+        {"D 5 2 5", "14"},
+        {"D 5 2 4", "6"},
+        {"D 5 8 3", "4"},
+        {"D 0 8 3", "3"},
+        {"G 5 8 5", "4"}, /* a refused update leaves its number */
+        {"G 0 1 5", "3"},
+        {"G 5 8 9", "4"},
+        {"R 5 2 5", "0"},
+        {"Q 5 2", "10"},
+        {"F 5", "0"}, /* a forget leaves the state */
+        {"D 5 0 0", "13"},
+        {"D 5 0 4", "13"},
+        {"D 5 0 5", "0"},
+        {"S", "0\n= 5 0\n= 6 - 1"},
+        {"O 8 4294967294", "0"},
+        {"R 5 1 4294967295", "0"},
+        {"R 5 1 4294967295", "13"},
+        {"R 5 1 0", "13"},
+        {"R 5 1 4294967296", "9"},
+        {"D 5 2 4294967295", "0"},
+        {"D 5 3 4294967294", "13"},
+        {"S", "0\n= 5 1,2"},
+        {"O 8", "9"},
+        {"D 5 1", "9"},
+        {"D 5 1,2", "9"},
+        {"G 5 1", "9"},
+        {"O 8 4294967296", "9"},
+        {"O 8 01", "9"},
+        {"D 5 1 01", "9"},
+        {"D 5 1 0 0", "9"},
+        {"F 5 0", "9"},
+        {"S 0", "9"},
+        {"S", "0\n= 5 1,2"},
+    };
+    static struct bytes in, want;
+    group("policy states: late and ahead, what moves them and what does not, and lines without a state");
+    put_said(lines, sizeof lines / sizeof lines[0], &in, &want);
+    compare_with(&in, from_file, &want);
+    compare(&in, from_file);
+}
+
 static void third_field(void)
 {
-    static const struct {
-        const char *line, *printed;
-    } lines[] = {
-        {"Q 5 0", "1"},       {"O 64", "0"},         {"Q 5 -", "10"},       {"Q 5 0", "12 0"},
+    static const struct said lines[] = {
+        {"Q 5 0", "1"},       {"O 64 0", "0"},       {"Q 5 -", "10"},       {"Q 5 0", "12 0"},
         {"Q 5 63", "12 63"},  {"Q 5 0,63", "12 0"},  {"Q 5 9,10", "12 9"},  {"Q 5 10,11", "12 10"},
         {"Q 12 12", "12 12"}, {"Q 0 0", "3"},        {"Q 5 64", "9"},       {"Q 5 0 0", "9"},
-        {"D 5 0,1", "0"},     {"Q 5 0,1", "10"},     {"Q 5 0,2", "12 2"},   {"Q 5 1,63", "12 63"},
-        {"A 5 62,63", "0"},   {"Q 5 0,62,63", "11"}, {"Q 5 1,63", "12 63"}, {"Q 5 0,61,62", "12 61"},
-        {"D 5 62,63", "6"},   {"R 5 62", "0"},       {"Q 5 62", "10"},      {"Q 5 62,63", "12 63"},
-        {"G 5 63", "0"},      {"Q 5 2,63", "11"},    {"Q 5 2,62", "12 2"},  {"S", "0\n= 5 0,1,62 63"},
-        {"F 5", "0"},         {"Q 5 0,63", "12 0"},  {"O 8", "0"},          {"Q 5 7", "12 7"},
-        {"Q 5 7,8", "4"},     {"Q 0 8", "3"},        {"O 65", "2"},
+        {"D 5 0,1 0", "0"},   {"Q 5 0,1", "10"},     {"Q 5 0,2", "12 2"},   {"Q 5 1,63", "12 63"},
+        {"A 5 62,63 0", "0"}, {"Q 5 0,62,63", "11"}, {"Q 5 1,63", "12 63"}, {"Q 5 0,61,62", "12 61"},
+        {"D 5 62,63 0", "6"}, {"R 5 62 1", "0"},     {"Q 5 62", "10"},      {"Q 5 62,63", "12 63"},
+        {"G 5 63 2", "0"},    {"Q 5 2,63", "11"},    {"Q 5 2,62", "12 2"},  {"S", "0\n= 5 0,1,62 63"},
+        {"F 5", "0"},         {"Q 5 0,63", "12 0"},  {"O 8 0", "0"},        {"Q 5 7", "12 7"},
+        {"Q 5 7,8", "4"},     {"Q 0 8", "3"},        {"O 65 0", "2"},
     };
     static struct bytes in, want;
     size_t count = sizeof lines / sizeof lines[0];
     group("a third field, the role to ask about: with 12 and nowhere else");
-    clear(&in);
-    clear(&want);
-    for (size_t i = 0; i < count; i++) {
-        putf(&in, "%s\n", lines[i].line);
-        putf(&want, "%zu %s\n", i + 1, lines[i].printed);
-    }
+    put_said(lines, count, &in, &want);
     /* all roles, of which all but the last are denied */
-    putf(&in, "O 64\nD 4294967295 ");
+    putf(&in, "O 64 0\nD 4294967295 ");
     put_set(&in, UINT64_MAX >> 1);
-    putf(&in, "\n");
+    putf(&in, " 0\n");
     put_longest(&in, 'Q');
     putf(&want, "%zu 0\n%zu 0\n%zu 12 63\n", count + 1, count + 2, count + 3);
     compare_with(&in, from_file, &want);
@@ -339,36 +404,40 @@ static void third_field(void)
 static void put_sixteenth(struct bytes *in, struct bytes *want)
 {
     unsigned n = 16 + (unsigned)any_below(49), line = 0;
-    uint32_t p = 2 + (uint32_t)any_below(UINT32_MAX - 2);
+    unsigned long p = 2 + any_below(UINT32_MAX - 2), state = any_below(UINT32_MAX - 20);
     uint64_t roles = 0, others = UINT64_MAX >> (64 - n);
     clear(in);
     clear(want);
-    putf(in, "O %u\nD %lu 0\nG %lu 1\n", n, (unsigned long)p - 1, (unsigned long)p + 1);
+    putf(in, "O %u %lu\nD %lu 0 %lu\nG %lu 1 %lu\n", n, state, p - 1, state, p + 1, state + 1);
+    state++;
     while (__builtin_popcountll(roles) < 15) {
         unsigned role = (unsigned)any_below(n);
+        bool given = any_below(2);
         if (!(roles >> role & 1))
-            putf(in, "%c %lu %u\n", any_below(2) ? 'A' : 'G', (unsigned long)p, role);
+            putf(in, "%c %lu %u %lu\n", given ? 'G' : 'A', p, role, given ? ++state : state);
         roles |= UINT64_C(1) << role;
     }
     others &= ~roles;
     unsigned other = (unsigned)__builtin_ctzll(others), held = (unsigned)__builtin_ctzll(roles);
-    putf(in, "S\nA %lu %u\nQ %lu %u\n", (unsigned long)p, other, (unsigned long)p, held);
-    putf(in, "G %lu %u\nQ %lu %u\nS\n", (unsigned long)p, other, (unsigned long)p, held);
+    putf(in, "S\nA %lu %u %lu\nQ %lu %u\n", p, other, state, p, held);
+    putf(in, "G %lu %u %lu\nQ %lu %u\nS\n", p, other, state + 1, p, held);
+    /* the state moved */
+    putf(in, "D %lu - %lu\nD %lu - %lu\n", p, state, p, state + 1);
 
     while (line < 19)
         putf(want, "%u 0\n", ++line);
-    putf(want, "= %lu 0\n= %lu -", (unsigned long)p - 1, (unsigned long)p);
+    putf(want, "= %lu 0\n= %lu -", p - 1, p);
     for (unsigned role = 0; role < n; role++)
         if (roles >> role & 1)
             putf(want, " %u", role);
-    putf(want, "\n= %lu - 1\n20 7\n21 11\n22 8\n23 12 %u\n24 0\n", (unsigned long)p + 1, held);
-    putf(want, "= %lu 0\n= %lu - 1\n", (unsigned long)p - 1, (unsigned long)p + 1);
+    putf(want, "\n= %lu - 1\n20 7\n21 11\n22 8\n23 12 %u\n24 0\n", p + 1, held);
+    putf(want, "= %lu 0\n= %lu - 1\n25 13\n26 0\n", p - 1, p + 1);
 }
 
 static void sixteenth_set(void)
 {
     static struct bytes in, want;
-    group("a 16th open set: the reply answers 7, the update 8, and then the row is gone");
+    group("a 16th open set: the reply answers 7, the update 8, and then the row is gone and the state has moved");
     for (size_t i = 0; i < (few ? 10 : 100); i++) {
         put_sixteenth(&in, &want);
         compare_with(&in, from_file, &want);
@@ -386,7 +455,7 @@ static void put_longest_rows(struct bytes *in, struct bytes *rows)
             uint64_t set = UINT64_MAX & ~(UINT64_C(1) << role);
             putf(in, "A %lu ", (unsigned long)p);
             put_set(in, set);
-            putf(in, "\n");
+            putf(in, " 4294967295\n");
             putf(rows, " ");
             put_set(rows, set);
         }
@@ -409,7 +478,7 @@ static void much_output(void)
     clear(&in);
     clear(&rows);
     clear(&want);
-    putf(&in, "O 64\n");
+    putf(&in, "O 64 4294967295\n");
     put_longest_rows(&in, &rows);
     size_t lines = 1 + 128 * 15;
     for (size_t i = 1; i <= lines; i++)
@@ -513,6 +582,7 @@ int main(int count, char **words)
     pieces();
     random_streams();
     third_field();
+    policy_states();
     sixteenth_set();
     much_output();
     closed_output();

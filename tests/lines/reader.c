@@ -7,6 +7,11 @@
 
 /* ---- one line */
 
+static bool has_state(char letter)
+{
+    return strchr("OADGR", letter) != NULL;
+}
+
 static void write_line(const struct line *line, struct bytes *out)
 {
     putf(out, "%c", line->letter);
@@ -16,6 +21,8 @@ static void write_line(const struct line *line, struct bytes *out)
         putf(out, " ");
         put_set(out, line->set);
     }
+    if (has_state(line->letter))
+        putf(out, " %llu", (unsigned long long)line->state);
 }
 
 /* The roles that stand behind one byte each, up to the first thing that is none. */
@@ -33,6 +40,16 @@ static uint64_t guess_set(const char *at)
     return set;
 }
 
+/* The number behind the last space, which is cut off. */
+static uint64_t cut_state(char *text)
+{
+    char *last = strrchr(text, ' ');
+    if (!last)
+        return 0;
+    *last = 0;
+    return strtoull(last + 1, NULL, 10);
+}
+
 static bool one_role(uint64_t set)
 {
     return set != 0 && (set & (set - 1)) == 0;
@@ -40,6 +57,8 @@ static bool one_role(uint64_t set)
 
 static bool in_range(const struct line *line)
 {
+    if (line->state > UINT32_MAX)
+        return false;
     switch (line->letter) {
     case 'S': return true;
     case 'O': return line->number <= 255;
@@ -61,6 +80,8 @@ struct line read_line(const uint8_t *at, size_t count)
     text[count] = 0;
     char *end;
     line.letter = text[0];
+    if (has_state(line.letter))
+        line.state = cut_state(text);
     line.number = strtoull(text + 1, &end, 10);
     line.set = guess_set(end);
     clear(&again);
@@ -191,7 +212,8 @@ static uint32_t ask_open(struct reader *reader, const struct line *line)
     uint64_t n = line->number;
     if (opens(line))
         reader->n = n;
-    return second_open(&reader->second, SECOND_BYTES, opens(line) && n > SECOND_ROLES ? SECOND_ROLES : n);
+    return second_open(&reader->second, SECOND_BYTES, opens(line) && n > SECOND_ROLES ? SECOND_ROLES : n,
+                       (uint32_t)line->state);
 }
 
 static uint64_t kind_of(const struct line *line)
@@ -211,7 +233,7 @@ static uint32_t ask_event(struct reader *reader, const struct line *line)
     bool known = below(line->set, reader->n);
     uint64_t kind = kind_of(line), near = known ? inside(groups, line->set) : UINT64_C(1) << reader->second.n;
     return second_event(&reader->second, SECOND_BYTES, (uint32_t)line->number, kind,
-                        kind < SECOND_WITHDRAWN ? near : second_lowest(near));
+                        kind < SECOND_WITHDRAWN ? near : second_lowest(near), (uint32_t)line->state);
 }
 
 /* A session may cut through groups. It's allowed if the groups in it are; it's denied if all that it touches are. */

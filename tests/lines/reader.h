@@ -8,12 +8,13 @@
 
 #include <stdbool.h>
 
-enum { LONGEST_LINE = 200 };
+enum { LONGEST_LINE = 216 };
 
 struct line {
     char letter;     /* 0: it doesn't read */
     uint64_t number; /* role count or permission */
     uint64_t set;    /* a role of G and R as the set of it alone */
+    uint64_t state;  /* of O, A, D, G and R */
 };
 
 /* Reads a line without its LF. */

@@ -1,6 +1,7 @@
 #include "streams.h"
 
 #include "groups.h"
+#include "reader.h"
 
 #include <stdbool.h>
 #include <stdio.h>
@@ -25,23 +26,30 @@ static void put_on_set(struct bytes *in, char letter, uint64_t permission, uint6
     putf(in, "\n");
 }
 
-static void put_on_role(struct bytes *in, char letter, uint64_t permission, uint64_t role)
+static void put_reply(struct bytes *in, char letter, uint64_t permission, uint64_t set, uint32_t state)
 {
-    putf(in, "%c %llu %llu\n", letter, (number)permission, (number)role);
+    putf(in, "%c %llu ", letter, (number)permission);
+    put_set(in, set);
+    putf(in, " %lu\n", (unsigned long)state);
+}
+
+static void put_update(struct bytes *in, char letter, uint64_t permission, uint64_t role, uint32_t state)
+{
+    putf(in, "%c %llu %llu %lu\n", letter, (number)permission, (number)role, (unsigned long)state);
 }
 
 /* ---- lines that don't read, or only just do */
 
-/* Each is unreadable or changes nothing, and none tells roles of a permission apart. */
+/* Each is unreadable or records nothing, also with a state behind it, and none tells roles of a permission apart. */
 static const char *const odd_lines[] = {
     /* no letter */
     "", " ", "-", "0", "1", "9 12 5", "=", "= 5 - 3", "#", "//", "X", "X 5", "\r", "\t",
     /* open */
-    "O", "O ", "O  ", "O -", "O x", "O 08", "O 008", "O 8 ", " O 8", "O  8", "O 8 8", "O 256", "O 264", "O 65", "O 0",
-    "O 00", "O 255", "O 1000", "O 4294967304", "O 18446744073709551624", "O +8", "O -8", "O 8.", "O 8,", "O 8-", "o 8",
-    "O8", "O,8", "O\t8", "O 0x8", "O 1e1",
+    "O", "O ", "O  ", "O -", "O x", "O 08", "O 008", "O 8 ", "O  8", "O 8 8 8", "O 256", "O 264", "O 65", "O 0", "O 00",
+    "O 255", "O 1000", "O 4294967304", "O 18446744073709551624", "O +8", "O -8", "O 8.", "O 8,", "O 8-", "o 8", "O8",
+    "O,8", "O\t8", "O 0x8", "O 1e1", " O 8", "O 8,0", "O 8  0",
     /* allow */
-    "A", "A ", "A 5", "A 5 ", "A 5  ", "A  5 1", "A 5  1", "A 5 1 ", " A 5 1", "A 5 1 2", "A 5 1,", "A 5 ,1", "A 5 ,",
+    "A", "A ", "A 5", "A 5 ", "A 5  ", "A  5 1", "A 5  1", "A 5 1 ", " A 5 1", "A 5 1 2 3", "A 5 1,", "A 5 ,1", "A 5 ,",
     "A 5 1,,2", "A 5 1, 2", "A 5 1 ,2", "A 5 01", "A 5 1,02", "A 5 00", "A 5 2,1", "A 5 1,1", "A 5 1,2,2", "A 5 0,0",
     "A 5 3,2,1", "A 5 64", "A 5 1,64", "A 5 63,64", "A 5 100", "A 5 256", "A 5 257", "A 5 4294967297", "A 5 -1",
     "A 5 18446744073709551617", "A 5 --", "A 5 -,1", "A 5 1,-", "A 5 - ", "A 5 -0", "A 5 1-2", "A 5 1.2", "A 5 +1",
@@ -49,14 +57,14 @@ static const char *const odd_lines[] = {
     "A 4294967301 1", "A 9999999999 1", "A 04294967295 1", "A 10000000000 1", "A 18446744073709551621 1",
     "A 99999999999999999999999999999999 1", "A - 1", "A , 1", "a 5 1", "A 5 1\r", "A 5 1\t", "A\t5 1", "A 5\t1",
     /* deny */
-    "D", "D 5", "D 5 ", "D 5 1 ", "D 5 1 2", "D 5 2,1", "D 5 1,1", "D 5 01", "D 5 64", "D 4294967296 1",
+    "D", "D 5", "D 5 ", "D 5 1 ", "D 5 1 2 3", "D 5 2,1", "D 5 1,1", "D 5 01", "D 5 64", "D 4294967296 1",
     "D 4294967301 1", "D 05 1", "D  5 1", "D 5  1", "d 5 1", "D5 1", "D 5 --", "D 5 -\r",
     /* given */
-    "G", "G 5", "G 5 ", "G 5 -", "G 5 1,2", "G 5 1 ", "G 5 1 2", "G 5 01", "G 5 64", "G 5 255", "G 5 256", "G 5 257",
+    "G", "G 5", "G 5 ", "G 5 -", "G 5 1,2", "G 5 1 ", "G 5 1 2 3", "G 5 01", "G 5 64", "G 5 255", "G 5 256", "G 5 257",
     "G 5 4294967296", "G 5 18446744073709551616", "G 5 x", "G x 1", "G 05 1", "G  5 1", "G 5  1", "G 4294967296 1",
     "G 4294967301 1", "g 5 1", "G5 1", "G 5 1,", "G 5 +1",
     /* withdrawn */
-    "R", "R 5", "R 5 ", "R 5 -", "R 5 1,2", "R 5 1 ", "R 5 1 2", "R 5 01", "R 5 64", "R 5 256", "R 5 257", "R x 1",
+    "R", "R 5", "R 5 ", "R 5 -", "R 5 1,2", "R 5 1 ", "R 5 1 2 3", "R 5 01", "R 5 64", "R 5 256", "R 5 257", "R x 1",
     "R 05 1", "R  5 1", "R 5  1", "R 4294967296 1", "R 4294967301 1", "r 5 1", "R5 1", "R 5 1,",
     /* decide */
     "Q", "Q 5", "Q 5 ", "Q 5 1 ", "Q 5 1 2", "Q 5 2,1", "Q 5 1,1", "Q 5 01", "Q 5 64", "Q 5 -1", "Q 4294967296 1",
@@ -72,30 +80,74 @@ static const char *const odd_lines[] = {
     "A 0 1", "D 0 1", "G 0 1", "R 0 1", "Q 0 1", "F 0", "A 0 64", "G 0 64",
 };
 
+/* Lines that lack only a state, as all did before there were states, and what is none. */
+static const char *const stateless[] = {"O 8", "A 5 1", "A 5 -", "D 5 1", "D 5 -", "G 5 1", "R 5 1"};
+static const char *const odd_states[] = {
+    "", " ", "  ", " 00", " 01", " 0 ", "  0", " 0 0", " 0 1", " -", " -0", " -1", " +1", " x", " 0x1", " 1e1", " 1.",
+    " ,", " 0,", " ,0", " 0,1", " 0-", " \t0", "\t0", " 0\t", " 0\r", ",0 ", " 4294967296", " 4294967297",
+    " 4294967306", " 9999999999", " 10000000000", " 04294967295", " 18446744073709551615", " 18446744073709551616",
+    " 18446744073709551617", " 99999999999999999999999999999999", " \xd9\xa1",
+};
+static const uint32_t edge_states[] = {
+    0,         1,     2,       3,         9,          10,         99,         100,
+    65535,     65536, 1 << 20, 999999999, 1000000000, 2147483647, 2147483648, UINT32_MAX - 1,
+    UINT32_MAX};
+
 static const uint64_t edge_permissions[] = {1,     2,     5,       9,         10,         99,         100,
                                             65535, 65536, 1 << 20, 999999999, 1000000000, 2147483648, 4294967295};
+
+/* Each odd line by itself, and with a state behind it. */
+static void put_odd_lines(struct bytes *in, uint32_t state, const char *between)
+{
+    for (size_t i = 0; i < COUNT(odd_lines); i++)
+        putf(in, "%s\n%s%s %lu\n%s", odd_lines[i], between, odd_lines[i], (unsigned long)state, between);
+    for (size_t i = 0; i < COUNT(stateless); i++)
+        for (size_t k = 0; k < COUNT(odd_states); k++)
+            putf(in, "%s%s\n%s", stateless[i], odd_states[k], between);
+}
+
+/* Events with every state around the area's, and with those of many digits. */
+static void put_states(struct bytes *in, unsigned role)
+{
+    static const char letters[] = "ADGR";
+    for (size_t i = 0; i < COUNT(edge_states); i++) {
+        uint32_t state = edge_states[i];
+        putf(in, "O %u %lu\n", role + 1, (unsigned long)state);
+        for (size_t k = 0; k < 4; k++) {
+            for (size_t m = 0; m < COUNT(edge_states); m++)
+                putf(in, "%c %zu %u %lu\n", letters[k], 5 + k, role, (unsigned long)edge_states[m]);
+            for (uint32_t off = 0; off < 7; off++)
+                putf(in, "%c %zu %u %lu\n", letters[k], 5 + k, role, (unsigned long)(uint32_t)(state + off - 3));
+        }
+        put_line(in, "S");
+    }
+}
 
 void put_edges(struct bytes *in)
 {
     static const unsigned counts[] = {1, 2, 6, 7, 63, 64};
-    for (size_t i = 0; i < COUNT(odd_lines); i++)
-        put_line(in, odd_lines[i]);
+    put_odd_lines(in, 0, "");
     for (unsigned k = 0; k < COUNT(counts); k++) {
         unsigned last = counts[k] - 1;
-        putf(in, "O %u\nA 5 %u\nD 6 %u\nG 7 %u\nR 8 %u\n", counts[k], last, last, last, last);
+        putf(in, "O %u 0\nA 5 %u 0\nD 6 %u 0\nG 7 %u 1\nR 8 %u 2\n", counts[k], last, last, last, last);
         for (unsigned p = 5; p <= 8; p++) {
-            putf(in, "A %u %u\nD %u %u\nG %u %u\nR %u %u\n", p, last + 1, p, last + 1, p, last + 1, p, last + 1);
-            putf(in, "Q %u %u\nQ %u %u\nQ %u -\nA %u -\nD %u -\n", p, last, p, last + 1, p, p, p);
+            for (unsigned role = last; role <= last + 1; role++)
+                putf(in, "A %u %u 1\nD %u %u 3\nG %u %u 2\nR %u %u 4\n", p, role, p, role, p, role, p, role);
+            unsigned beyond = last + 1;
+            putf(in, "A %u %u 2\nD %u %u 2\nG %u %u 3\nR %u %u 3\n", p, beyond, p, beyond, p, beyond, p, beyond);
+            putf(in, "Q %u %u\nQ %u %u\nQ %u -\nA %u - 2\nD %u - 2\n", p, last, p, last + 1, p, p, p);
         }
-        for (size_t i = 0; i < COUNT(odd_lines); i++)
-            putf(in, "%s\nQ 5 %u\n", odd_lines[i], last);
+        char between[16];
+        snprintf(between, sizeof between, "Q 5 %u\n", last);
+        put_odd_lines(in, 2, between);
         for (size_t i = 0; i < COUNT(edge_permissions); i++)
-            putf(in, "D %llu 0\nS\nF %llu\n", (number)edge_permissions[i], (number)edge_permissions[i]);
+            putf(in, "D %llu 0 2\nS\nF %llu\n", (number)edge_permissions[i], (number)edge_permissions[i]);
         put_line(in, "S");
+        put_states(in, last);
     }
     for (unsigned n = 0; n <= 300; n++) {
-        putf(in, "O %u\nQ 5 %u\nS\n", n, n > 0 && n <= 64 ? n - 1 : 63);
-        putf(in, "D 5 %u\nD 6 %u\nS\n", n > 0 && n <= 64 ? n - 1 : 63, n);
+        unsigned last = n > 0 && n <= 64 ? n - 1 : 63;
+        putf(in, "O %u\nO %u 0\nQ 5 %u\nS\nD 5 %u 0\nD 6 %u 0\nS\n", n, n, last, last, n);
     }
 }
 
@@ -116,33 +168,42 @@ static void put_texts(struct bytes *in, const char *before, const char *letters,
 void put_short_lines(struct bytes *in)
 {
     put_texts(in, "", "OSFAQ 015-,", 4);
-    put_line(in, "O 64");
-    put_line(in, "A 5 1,3");
-    put_line(in, "D 5 0,6,10");
-    put_line(in, "A 5 13,31");
+    put_texts(in, "O", " 015-,", 5);
+    /* roles from 2 on are unknown, so none are told apart */
+    put_line(in, "O 2 0");
+    put_texts(in, "A 5 1", " 015-,", 4);
+    put_texts(in, "D 5 -", " 015-,", 4);
+    put_line(in, "O 64 0");
+    put_line(in, "A 5 1,3 0");
+    put_line(in, "D 5 0,6,10 0");
+    put_line(in, "A 5 13,31 0");
     put_texts(in, "Q 5 ", "0136-, ", 5);
     put_texts(in, "F ", "056- ", 5);
     static const char letters[] = "ADGR";
     for (size_t i = 0; i < 4; i++) {
+        uint32_t state = 0;
         for (unsigned p = 1; p <= 60; p++) {
             char before[32];
             snprintf(before, sizeof before, "%c %u%u", letters[i], p, (unsigned)any_below(1000));
             put_line(in, before);
             strcat(before, " ");
+            /* the first of those with a state is an update that counts, where it is one */
+            unsigned long named = i < 2 ? state : ++state;
             putf(in, "%s%u\n%s%u,%u\n%s-\n", before, p, before, p, p + 1, before);
-            putf(in, "%s0%u\n%s%u,%u\n%s%u,\n", before, p, before, p, p, before, p);
+            putf(in, "%s%u %lu\n%s%u,%u %lu\n%s- %lu\n", before, p, named, before, p, p + 1, named, before, named);
+            putf(in, "%s0%u %lu\n%s%u,%u %lu\n%s%u, %lu\n", before, p, named, before, p, p, named, before, p, named);
         }
-        putf(in, "S\nO 62\n");
+        putf(in, "S\nO 62 0\n");
     }
 }
 
 void put_every_byte(struct bytes *in)
 {
-    put_line(in, "O 9");
-    put_line(in, "A 5 1,2");
-    put_line(in, "D 5 3");
+    put_line(in, "O 9 0");
+    put_line(in, "A 5 1,2 0");
+    put_line(in, "D 5 3 0");
     for (unsigned code = 0; code < 256; code++) {
-        static const char *const lines[] = {"S", "Q 5 1,2", "A 5 1", "F 6", "G 7 1", "O 9"};
+        static const char *const lines[] = {"S", "Q 5 1,2", "A 5 1 0", "F 6", "G 7 1 1", "O 9 0"};
         if (code == '\n')
             continue;
         for (size_t i = 0; i < COUNT(lines); i++) {
@@ -160,6 +221,12 @@ void put_every_byte(struct bytes *in)
         putf(in, "Q 5 1%c2\n", (int)code);
         putf(in, "Q 5 %c1,2\n", (int)code);
         putf(in, "Q 5 1,2%cx\n", (int)code);
+        putf(in, "A 5 1%c0\n", (int)code);
+        putf(in, "A 5 1 %c0\n", (int)code);
+        putf(in, "A 5 1 0%c1\n", (int)code);
+        putf(in, "O 9%c0\n", (int)code);
+        putf(in, "O 9 %c0\n", (int)code);
+        put_line(in, "O 9 0");
     }
     put_line(in, "S");
 }
@@ -168,7 +235,10 @@ void put_every_byte(struct bytes *in)
 
 void put_longest(struct bytes *in, char letter)
 {
-    put_on_set(in, letter, UINT32_MAX, all_roles);
+    if (letter == 'A' || letter == 'D')
+        put_reply(in, letter, UINT32_MAX, all_roles, UINT32_MAX);
+    else
+        put_on_set(in, letter, UINT32_MAX, all_roles);
 }
 
 /* A good line, then as many bytes more as it takes. */
@@ -181,31 +251,35 @@ static void put_stretched(struct bytes *in, const char *line, char more, size_t 
 
 void put_long_lines(struct bytes *in)
 {
-    static const size_t lengths[] = {193,  194,  195,  196,  197,   198,   199,   200,   201,   202,  203,
-                                     204,  255,  256,  257,  393,   394,   395,   399,   400,   401,  402,
-                                     4095, 4096, 4097, 8192, 65535, 65536, 65537, 99999, 100000};
-    put_line(in, "O 64");
+    static const size_t lengths[] = {193, 194, 195,  199,  200,  201,  204,   205,   206,   207,   213,   214, 215,
+                                     216, 217, 218,  219,  220,  255,  256,   257,   409,   410,   411,   431, 432,
+                                     433, 434, 4095, 4096, 4097, 8192, 65535, 65536, 65537, 99999, 100000};
+    static struct bytes longest;
+    put_line(in, "O 64 4294967295");
     for (const char *letter = "ADQS"; *letter; letter++) {
         put_longest(in, *letter);
         putf(in, "S\nF 4294967295\n");
     }
-    static struct bytes longest;
-    clear(&longest);
-    put_longest(&longest, 'Q');
-    longest.at[--longest.count] = 0;
     for (size_t i = 0; i < COUNT(lengths); i++) {
         put_again(in, 'x', lengths[i]);
-        putf(in, "\nD 5 1\n");
+        putf(in, "\nD 5 1 4294967295\n");
         put_stretched(in, "S", ' ', lengths[i]);
         put_stretched(in, "F 5", '0', lengths[i]);
         put_stretched(in, "O ", '0', lengths[i]);
+        put_stretched(in, "O 8 ", '0', lengths[i]);
         put_stretched(in, "Q 5 1", ',', lengths[i]);
-        if (lengths[i] >= longest.count)
-            put_stretched(in, (const char *)longest.at, ' ', lengths[i]);
-        if (lengths[i] >= 200) {
+        put_stretched(in, "D 5 1 ", '1', lengths[i]);
+        for (const char *letter = "QD"; *letter; letter++) {
+            clear(&longest);
+            put_longest(&longest, *letter);
+            longest.at[--longest.count] = 0;
+            if (lengths[i] >= longest.count)
+                put_stretched(in, (const char *)longest.at, ' ', lengths[i]);
+        }
+        if (lengths[i] >= LONGEST_LINE) {
             /* a good line stands where a line cut at this length would go on */
             put_again(in, ' ', lengths[i]);
-            putf(in, "O 8\n");
+            putf(in, "O 8 0\n");
             put_again(in, 0, lengths[i]);
             putf(in, "S\n");
         }
@@ -215,7 +289,7 @@ void put_long_lines(struct bytes *in)
 
 void put_filler(struct bytes *in, size_t upto, unsigned way)
 {
-    static const size_t length[FILLERS] = {6, 1, 201, 202};
+    static const size_t length[FILLERS] = {6, 1, LONGEST_LINE + 1, LONGEST_LINE + 2};
     if (way == 1) {
         put_again(in, '\n', upto > in->count ? upto - in->count : 0);
         return;
@@ -242,12 +316,14 @@ enum { MOST_PERMISSIONS = 200, GROUPS = 6 };
 struct style {
     size_t permissions;
     unsigned replies, updates, forgets, shows, odd; /* of 100 lines; the rest decides */
+    unsigned untimely;                              /* of 100 events */
     bool triples, spoil;
 };
 
 struct world {
     const struct style *style;
     unsigned n;
+    uint32_t state; /* the area's, as the lines before leave it */
     uint64_t permission[MOST_PERMISSIONS];
     uint64_t group[MOST_PERMISSIONS][GROUPS]; /* disjoint; 0: none */
     unsigned singles[MOST_PERMISSIONS];       /* the first groups have one role each */
@@ -293,10 +369,22 @@ static void choose_groups(struct world *world, size_t i)
     }
 }
 
+/* Near the first state, near the last one, where updates run out, or anywhere. */
+static uint32_t any_opening(void)
+{
+    switch (any_below(8)) {
+    case 0: return ANY_OF(edge_states);
+    case 1: return UINT32_MAX - (uint32_t)any_below(30);
+    case 2: return (uint32_t)any();
+    default: return (uint32_t)any_below(3);
+    }
+}
+
 static void open_world(struct world *world, struct bytes *in, const struct style *style, unsigned n)
 {
     world->style = style;
     world->n = n;
+    world->state = any_opening();
     for (size_t i = 0; i < style->permissions; i++) {
         world->permission[i] = any_permission();
         choose_groups(world, i);
@@ -308,7 +396,31 @@ static void open_world(struct world *world, struct bytes *in, const struct style
             }
         }
     }
-    putf(in, "O %u\n", n);
+    putf(in, "O %u %lu\n", n, (unsigned long)world->state);
+}
+
+/* The state that an event has to name, or now and then another. */
+static uint32_t any_state(const struct world *world, bool update)
+{
+    uint32_t timely = world->state + update;
+    if (any_below(100) >= world->style->untimely)
+        return timely;
+    switch (any_below(5)) {
+    case 0: return timely - 1;
+    case 1: return timely + 1;
+    case 2: return timely - (uint32_t)any_below(9);
+    case 3: return timely + (uint32_t)any_below(9);
+    default: return ANY_OF(edge_states);
+    }
+}
+
+/* Moves the state where the line that starts there is an update that counts. */
+static void follow(struct world *world, const struct bytes *in, size_t start)
+{
+    struct line line = read_line(in->at + start, in->count > start ? in->count - 1 - start : 0);
+    bool update = line.letter == 'G' || line.letter == 'R';
+    if (update && line.number != 0 && (line.set & ~below_n(world->n)) == 0 && line.state == world->state + UINT64_C(1))
+        world->state++;
 }
 
 static uint64_t far_set(const struct world *world, size_t i, uint64_t near)
@@ -348,10 +460,10 @@ static void put_good_line(const struct world *world, struct bytes *in)
     uint64_t permission = world->permission[i], dice = any_below(100);
     if (dice < style->replies) {
         char letter = any_below(style->triples ? 8 : 2) ? 'A' : 'D';
-        put_on_set(in, letter, permission, far_set(world, i, any_near(world)));
+        put_reply(in, letter, permission, far_set(world, i, any_near(world)), any_state(world, false));
     } else if ((dice -= style->replies) < style->updates && world->singles[i]) {
         uint64_t role = (uint64_t)__builtin_ctzll(world->group[i][any_below(world->singles[i])]);
-        put_on_role(in, any_below(2) ? 'G' : 'R', permission, role);
+        put_update(in, any_below(2) ? 'G' : 'R', permission, role, any_state(world, true));
     } else if ((dice -= style->updates) < style->forgets) {
         putf(in, "F %llu\n", (number)permission);
     } else if ((dice -= style->forgets) < style->shows) {
@@ -370,10 +482,12 @@ static void put_unknown(const struct world *world, struct bytes *in)
         return;
     uint64_t role = any_below(2) ? world->n : world->n + any_below(64 - world->n);
     uint64_t set = far_set(world, i, any_near(world)) | UINT64_C(1) << role;
-    if (any_below(2))
-        put_on_set(in, "ADQ"[any_below(3)], permission, set);
-    else
-        put_on_role(in, "GR"[any_below(2)], permission, role);
+    switch (any_below(6)) {
+    case 0: put_on_set(in, 'Q', permission, set); break;
+    case 1:
+    case 2: put_reply(in, "AD"[any_below(2)], permission, set, any_state(world, false)); break;
+    default: put_update(in, "GR"[any_below(2)], permission, role, any_state(world, true));
+    }
 }
 
 static void remove_bytes(struct bytes *in, size_t at, size_t count)
@@ -415,9 +529,11 @@ static void spoil_line(struct bytes *in, size_t start)
 static void put_odd_line(const struct world *world, struct bytes *in)
 {
     size_t start = in->count;
-    switch (any_below(world->style->spoil ? 4 : 2)) {
+    switch (any_below(world->style->spoil ? 6 : 4)) {
     case 0: put_unknown(world, in); break;
     case 1: put_line(in, ANY_OF(odd_lines)); break;
+    case 2: putf(in, "%s %lu\n", ANY_OF(odd_lines), (unsigned long)any_state(world, any_below(2))); break;
+    case 3: putf(in, "%s%s\n", ANY_OF(stateless), ANY_OF(odd_states)); break;
     default:
         put_good_line(world, in);
         spoil_line(in, start);
@@ -429,37 +545,42 @@ static void put_stream(struct bytes *in, const struct style *style, unsigned n, 
     static struct world world;
     open_world(&world, in, style, n);
     for (size_t i = 0; i < lines; i++) {
+        size_t start = in->count;
         if (any_below(100) < style->odd)
             put_odd_line(&world, in);
         else
             put_good_line(&world, in);
+        follow(&world, in, start);
     }
     put_line(in, "S");
 }
 
 void put_small(struct bytes *in, size_t lines)
 {
-    struct style style = {.replies = 45, .updates = 15, .forgets = 3, .shows = 5, .odd = 20, .spoil = true};
+    struct style style = {
+        .replies = 45, .updates = 15, .forgets = 3, .shows = 5, .odd = 20, .untimely = 12, .spoil = true};
     style.permissions = 1 + any_below(8);
     put_stream(in, &style, 1 + (unsigned)any_below(6), lines);
 }
 
 void put_many_sets(struct bytes *in, size_t lines)
 {
-    struct style style = {.replies = 75, .updates = 1, .forgets = 1, .shows = 4, .odd = 3, .triples = true};
+    struct style style = {
+        .replies = 75, .updates = 1, .forgets = 1, .shows = 4, .odd = 3, .untimely = 2, .triples = true};
     style.permissions = 1 + any_below(2);
     put_stream(in, &style, 6, lines);
 }
 
 void put_many_rows(struct bytes *in, size_t lines)
 {
-    struct style style = {.replies = 45, .updates = 25, .forgets = 6, .odd = 3, .permissions = MOST_PERMISSIONS};
+    struct style style = {.replies = 45, .updates = 25, .forgets = 6, .odd = 3, .untimely = 5};
+    style.permissions = MOST_PERMISSIONS;
     put_stream(in, &style, 2 + (unsigned)any_below(5), lines);
 }
 
 void put_wide(struct bytes *in, size_t lines)
 {
-    struct style style = {.replies = 55, .updates = 10, .forgets = 2, .shows = 5, .odd = 8};
+    struct style style = {.replies = 55, .updates = 10, .forgets = 2, .shows = 5, .odd = 8, .untimely = 8};
     style.permissions = 1 + any_below(8);
     style.triples = any_below(2);
     put_stream(in, &style, any_below(3) ? 7 + (unsigned)any_below(58) : 64, lines);
@@ -467,7 +588,7 @@ void put_wide(struct bytes *in, size_t lines)
 
 void put_full_area(struct bytes *in)
 {
-    put_line(in, "O 64");
+    put_line(in, "O 64 0");
     for (uint64_t row = 0; row < 128; row++) {
         uint64_t permission = UINT32_MAX - 127 + row;
         for (uint64_t near = 0; near < 1 << GROUPS; near++) {
@@ -477,7 +598,7 @@ void put_full_area(struct bytes *in)
             for (unsigned role = 0; role < 64; role++)
                 if (near >> (role + row) % GROUPS & 1)
                     set |= UINT64_C(1) << role;
-            put_on_set(in, 'A', permission, set);
+            put_reply(in, 'A', permission, set, 0);
         }
     }
 }

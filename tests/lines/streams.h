@@ -24,10 +24,10 @@ void put_edges(struct bytes *in);
 void put_short_lines(struct bytes *in);
 void put_every_byte(struct bytes *in);
 
-/* Lines around 200 bytes and far longer ones, good lines before, in and behind them. */
+/* Lines around 216 bytes and far longer ones, good lines before, in and behind them. */
 void put_long_lines(struct bytes *in);
 
-/* The longest line that reads: allow, decide and so on, on a long permission and all 64 roles. */
+/* The longest line that reads: allow, decide and so on, on a long permission, all 64 roles and a long state. */
 void put_longest(struct bytes *in, char letter);
 
 /* Fills up to `upto` bytes in one of FILLERS ways, ending with LF. */

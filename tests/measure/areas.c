@@ -112,6 +112,7 @@ void fill(uint8_t *area, unsigned rows, unsigned opens, enum kind kind)
     memset(area, 0, AREA_BYTES);
     put(area, 0, 64);
     put(area, 1, rows);
+    put(area, STATE_AT, FILLED_STATE);
     for (unsigned i = 0; i < rows; i++) {
         put(area, contents_at(i), permission_of(i));
         put(area, contents_at(i) + 1, opens);

@@ -9,9 +9,10 @@ enum {
     MOST_ROWS = 128,
     MOST_OPENS = 15,
     BODY_WORDS = 16,
-    CONTENTS_AT = 2,
-    BODIES_AT = 258,
-    AREA_WORDS = 2306,
+    STATE_AT = 2,
+    CONTENTS_AT = 3,
+    BODIES_AT = 259,
+    AREA_WORDS = 2307,
     AREA_BYTES = 8 * AREA_WORDS
 };
 
@@ -26,6 +27,9 @@ enum kind { OWN, PAIRS, TURNED, CROSSED, STAR, LONG };
 /* Roles that no filled row denies and, but for LONG, no open set has: one below, one above those of all open sets. */
 #define LOWEST_ROLE 0
 #define FREE_ROLE 47
+
+/* The policy state of a filled area: replies on it name this one, updates the next. */
+#define FILLED_STATE 7
 
 /* Role count 64, row i has the permission permission_of(i); rows at most MOST_ROWS, opens at most MOST_OPENS, and for
  * LONG at least 1. */

@@ -23,7 +23,7 @@ bool CHECK(const uint8_t *area, size_t len);
 struct yardstick_decided DECIDE(const uint8_t *area, size_t len, uint32_t permission, uint64_t set);
 #endif
 #ifdef EVENT
-uint32_t EVENT(uint8_t *area, size_t len, uint32_t permission, uint64_t kind, uint64_t number);
+uint32_t EVENT(uint8_t *area, size_t len, uint32_t permission, uint64_t kind, uint64_t number, uint32_t state);
 #endif
 #ifdef PRINT_OPEN
 struct written PRINT_OPEN(const uint8_t *area, size_t len, uint8_t *out, size_t out_len);
@@ -78,12 +78,12 @@ static struct yardstick_decided decide(void)
 #ifdef EVENT
 static uint32_t deny(uint64_t set)
 {
-    return EVENT(area, AREA_BYTES, permission, YARDSTICK_DENY, set);
+    return EVENT(area, AREA_BYTES, permission, YARDSTICK_DENY, set, FILLED_STATE);
 }
 
 static uint32_t allow(uint64_t set)
 {
-    return EVENT(area, AREA_BYTES, permission, YARDSTICK_ALLOW, set);
+    return EVENT(area, AREA_BYTES, permission, YARDSTICK_ALLOW, set, FILLED_STATE);
 }
 
 /* What is known already. */
@@ -123,18 +123,18 @@ static uint32_t allow_last(void)
 /* A permission before all others: every row moves. */
 static uint32_t new_row(void)
 {
-    return EVENT(area, AREA_BYTES, permission_of(0) - 1, YARDSTICK_DENY, UINT64_C(1) << FREE_ROLE);
+    return EVENT(area, AREA_BYTES, permission_of(0) - 1, YARDSTICK_DENY, UINT64_C(1) << FREE_ROLE, FILLED_STATE);
 }
 
 /* The lowest role of the first open set: of pairs every set that has it goes. */
 static uint32_t withdrawn(void)
 {
-    return EVENT(area, AREA_BYTES, permission, YARDSTICK_WITHDRAWN, first_role);
+    return EVENT(area, AREA_BYTES, permission, YARDSTICK_WITHDRAWN, first_role, FILLED_STATE + 1);
 }
 
 static uint32_t given(void)
 {
-    return EVENT(area, AREA_BYTES, permission, YARDSTICK_GIVEN, first_role);
+    return EVENT(area, AREA_BYTES, permission, YARDSTICK_GIVEN, first_role, FILLED_STATE + 1);
 }
 #endif
 

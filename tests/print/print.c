@@ -23,7 +23,7 @@ enum {
     OPENS = SECOND_OPENS,
     ROLES = SECOND_MOST_ROLES,
     ROOM = SECOND_ROOM,
-    LONGEST = 2890 /* bytes of the longest row: ten of its sets lack a role of one digit, five one of two */
+    LONGEST = 3055 /* bytes of the longest row: ten of its sets lack a role of one digit, five one of two */
 };
 
 #define BIT(role) (UINT64_C(1) << (role))
@@ -123,7 +123,7 @@ static void compare(struct what what, size_t len, size_t room)
 
 /* ---- what is asked of an area */
 
-static const size_t rooms[] = {0, 1, 195, ROOM - 1, ROOM, ROOM + 1, 2 * ROOM, MOST_ROOM};
+static const size_t rooms[] = {0, 1, 206, ROOM - 1, ROOM, ROOM + 1, 2 * ROOM, MOST_ROOM};
 
 /* The O line and every row, and of each kind of row number and buffer some. */
 static void compare_all(void)
@@ -150,9 +150,10 @@ static uint32_t hand_over(const uint8_t *at, size_t count)
 {
     struct line line = read_line(at, count);
     switch (line.letter) {
-    case 'O': return wickthrush_open(spare, BYTES, line.number);
-    case 'D': return wickthrush_event(spare, BYTES, (uint32_t)line.number, SECOND_DENY, line.set);
-    case 'A': return wickthrush_event(spare, BYTES, (uint32_t)line.number, SECOND_ALLOW, line.set);
+    case 'O': return wickthrush_open(spare, BYTES, line.number, (uint32_t)line.state);
+    case 'D': return wickthrush_event(spare, BYTES, (uint32_t)line.number, SECOND_DENY, line.set, (uint32_t)line.state);
+    case 'A':
+        return wickthrush_event(spare, BYTES, (uint32_t)line.number, SECOND_ALLOW, line.set, (uint32_t)line.state);
     default: return 9;
     }
 }
@@ -234,12 +235,26 @@ static void compare_program(void)
 
 /* ---- areas */
 
+/* States of every number of digits, the first and the last among them. */
+static uint32_t any_state(void)
+{
+    static const uint32_t edges[] = {0, 1, 9, 10, 99, 100, 999999999, 1000000000, UINT32_MAX - 1, UINT32_MAX};
+    return any_below(2) ? edges[any_below(COUNT(edges))] : (uint32_t)(any() >> (32 + any_below(32)));
+}
+
 static void open_area(uint64_t n)
 {
     for (size_t i = 0; i < BYTES; i++)
         area[i] = (uint8_t)any();
-    check(wickthrush_open(area, BYTES, n) == 0, "open with %llu roles", (unsigned long long)n);
+    check(wickthrush_open(area, BYTES, n, any_state()) == 0, "open with %llu roles", (unsigned long long)n);
     look();
+}
+
+/* An event in time: the area says which state it has to name. */
+static uint32_t event(uint32_t permission, uint64_t kind, uint64_t number)
+{
+    uint32_t state = (uint32_t)second_word(area, SECOND_STATE_AT);
+    return wickthrush_event(area, BYTES, permission, kind, number, kind < SECOND_WITHDRAWN ? state : state + 1);
 }
 
 static uint64_t all_below(uint64_t n)
@@ -279,15 +294,16 @@ static void random_area(uint64_t n)
         uint32_t permission = any_permission(permissions), answer;
         uint64_t dice = any_below(20);
         if (dice < 2)
-            answer = wickthrush_event(area, BYTES, permission, SECOND_WITHDRAWN + any_below(2), any_below(n));
+            answer = event(permission, SECOND_WITHDRAWN + any_below(2), any_below(n));
         else if (dice < 3)
             answer = wickthrush_forget(area, BYTES, permission);
         else if (pairs && dice < 19)
-            answer = wickthrush_event(area, BYTES, permission, SECOND_ALLOW, BIT(any_below(n)) | BIT(any_below(n)));
+            answer = event(permission, SECOND_ALLOW, BIT(any_below(n)) | BIT(any_below(n)));
         else
-            answer = wickthrush_event(area, BYTES, permission, dice > (allows ? 4 : 11) ? SECOND_ALLOW : SECOND_DENY,
-                                      any_set(n));
-        check(answer == 0 || (answer >= 6 && answer <= 8), "the stream is answered %lu", (unsigned long)answer);
+            answer = event(permission, dice > (allows ? 4 : 11) ? SECOND_ALLOW : SECOND_DENY, any_set(n));
+        /* behind the last state an update is late */
+        check(answer == 0 || (answer >= 6 && answer <= 8) || (answer == 13 && dice < 2), "the stream is answered %lu",
+              (unsigned long)answer);
     }
     look();
     check(good, "the stream leaves a bad area");
@@ -301,6 +317,7 @@ static void full_area(enum full full)
     memset(area, 0, BYTES);
     second_put(area, 0, ROLES);
     second_put(area, 1, ROWS);
+    second_put(area, SECOND_STATE_AT, full == ONE_ROLE ? 0 : UINT32_MAX);
     for (size_t row = 0; row < ROWS; row++) {
         uint64_t open[OPENS], denied = full == LONGEST_ROWS ? 0 : BIT(15 + row % 49);
         for (size_t k = 0; k < OPENS; k++)
@@ -378,13 +395,15 @@ static void full_areas(void)
 static void few_rows(void)
 {
     static const uint64_t opens[] = {BIT(3), BIT(5) | BIT(6)};
-    static const char *const texts[] = {"D 1 0\n", "A 9 3\nA 9 5,6\n", "D 10 1,2,4,7\nA 10 3\nA 10 5,6\n",
-                                        "D 4294967295 0,1,2,3,4,5,6,7\n"};
+    static const char *const texts[] = {"D 1 0 70\n", "A 9 3 70\nA 9 5,6 70\n",
+                                        "D 10 1,2,4,7 70\nA 10 3 70\nA 10 5,6 70\n",
+                                        "D 4294967295 0,1,2,3,4,5,6,7 70\n"};
     static uint8_t out[ROOM];
     group("rows of a denied set alone, of open sets alone, of both, of all roles");
     memset(area, 0, BYTES);
     second_put(area, 0, 8);
     second_put(area, 1, 4);
+    second_put(area, SECOND_STATE_AT, 70);
     second_put_row(area, 0, 1, BIT(0), 0, NULL);
     second_put_row(area, 1, 9, 0, 2, opens);
     second_put_row(area, 2, 10, BIT(1) | BIT(2) | BIT(4) | BIT(7), 2, opens);
@@ -399,7 +418,7 @@ static void few_rows(void)
               "row %zu is not '%s'", row, texts[row]);
     }
     wickthrush_written written = wickthrush_print_open(area, BYTES, out, ROOM);
-    check(written.answer == 0 && written.bytes == 4 && memcmp(out, "O 8\n", 4) == 0, "the O line");
+    check(written.answer == 0 && written.bytes == 7 && memcmp(out, "O 8 70\n", 7) == 0, "the O line");
 }
 
 /* Every mix of a bad area, a wrong length, a row that is not there and a short buffer. */
@@ -461,7 +480,7 @@ static size_t any_place(void)
 {
     size_t row = any_below(used ? used : 1);
     switch (any_below(6)) {
-    case 0: return any_below(2);
+    case 0: return any_below(3);
     case 1: return second_permission_at(row);
     case 2: return second_count_at(row);
     case 3: return second_denied_at(row);

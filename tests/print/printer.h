@@ -5,10 +5,10 @@
 
 #include "bytes.h"
 
-/* `O n`. */
+/* `O n state`. */
 void put_open_line(struct bytes *out, const uint8_t *area);
 
-/* Of a used row `D p set`, if something is denied, and `A p set` for each open set. */
+/* Of a used row `D p set state`, if something is denied, and `A p set state` for each open set. */
 void put_row_lines(struct bytes *out, const uint8_t *area, size_t row);
 
 /* What S shows of a used row. */

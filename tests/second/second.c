@@ -34,21 +34,6 @@ second_sets second_all(uint64_t n)
     return all;
 }
 
-/* Those that agree with a reply; each as an update leaves it. */
-static second_sets after(second_sets possible, uint64_t kind, uint64_t number)
-{
-    if (kind == SECOND_DENY)
-        return possible & ~sharing(number);
-    if (kind == SECOND_ALLOW)
-        return possible & sharing(number);
-    second_sets changed = 0;
-    uint64_t alone = UINT64_C(1) << number;
-    for (uint64_t h = 0; h < 1 << SECOND_ROLES; h++)
-        if (member(possible, h))
-            changed |= UINT64_C(1) << (kind == SECOND_GIVEN ? h | alone : h & ~alone);
-    return changed;
-}
-
 /* Whether every possible holder set shares a role with a set. */
 static bool always_shares(second_sets possible, uint64_t set)
 {
@@ -101,6 +86,118 @@ struct second_row second_row(second_sets possible, uint64_t n)
     return row;
 }
 
+/* ---- policies: a holder set for each state */
+
+static bool is_reply(uint64_t kind)
+{
+    return kind == SECOND_DENY || kind == SECOND_ALLOW;
+}
+
+/* The past of one permission: its updates by rising number, and its replies. */
+struct trail {
+    size_t updates, replies;
+    struct second_recorded update[SECOND_PAST], reply[SECOND_PAST];
+    size_t behind[SECOND_PAST]; /* how many of the updates the state of a reply has behind it */
+};
+
+static void add_update(struct trail *trail, const struct second_recorded *update)
+{
+    size_t i = trail->updates++;
+    for (; i > 0 && trail->update[i - 1].state > update->state; i--)
+        trail->update[i] = trail->update[i - 1];
+    trail->update[i] = *update;
+}
+
+static size_t updates_up_to(const struct trail *trail, uint32_t state)
+{
+    size_t count = 0;
+    while (count < trail->updates && trail->update[count].state <= state)
+        count++;
+    return count;
+}
+
+static void read_trail(const struct second *second, uint32_t permission, struct trail *trail)
+{
+    trail->updates = trail->replies = 0;
+    for (size_t i = 0; i < second->past_count; i++) {
+        const struct second_recorded *event = &second->past[i];
+        if (event->permission != permission)
+            continue;
+        if (is_reply(event->kind))
+            trail->reply[trail->replies++] = *event;
+        else
+            add_update(trail, event);
+    }
+    for (size_t i = 0; i < trail->replies; i++)
+        trail->behind[i] = updates_up_to(trail, trail->reply[i].state);
+}
+
+/* What each number of updates makes of a starting set. */
+static void make_policies(const struct trail *trail, uint64_t start, uint64_t *holders)
+{
+    holders[0] = start;
+    for (size_t i = 0; i < trail->updates; i++) {
+        uint64_t alone = UINT64_C(1) << trail->update[i].number;
+        holders[i + 1] = trail->update[i].kind == SECOND_GIVEN ? holders[i] | alone : holders[i] & ~alone;
+    }
+}
+
+/* Whether each reply is true in the state that it names. */
+static bool agrees(const struct trail *trail, const uint64_t *holders)
+{
+    for (size_t i = 0; i < trail->replies; i++) {
+        bool shares = (holders[trail->behind[i]] & trail->reply[i].number) != 0;
+        if (shares != (trail->reply[i].kind == SECOND_ALLOW))
+            return false;
+    }
+    return true;
+}
+
+/* Of every starting set that agrees with the past, the holder set that it has become in a state. */
+static second_sets possible_in(const struct second *second, uint32_t permission, uint32_t state)
+{
+    static struct trail trail;
+    static uint64_t holders[SECOND_PAST + 1];
+    second_sets possible = 0;
+    read_trail(second, permission, &trail);
+    for (uint64_t start = 0; start < UINT64_C(1) << second->n; start++) {
+        make_policies(&trail, start, holders);
+        if (agrees(&trail, holders))
+            possible |= UINT64_C(1) << holders[updates_up_to(&trail, state)];
+    }
+    return possible;
+}
+
+static bool same_event(const struct second_recorded *a, const struct second_recorded *b)
+{
+    return a->permission == b->permission && a->state == b->state && a->kind == b->kind && a->number == b->number;
+}
+
+/* A reply that is told again says nothing new. */
+static void remember(struct second *second, struct second_recorded event)
+{
+    for (size_t i = 0; i < second->past_count; i++)
+        if (same_event(&second->past[i], &event))
+            return;
+    if (second->past_count == SECOND_PAST)
+        abort();
+    second->past[second->past_count++] = event;
+}
+
+static void drop_past(struct second *second, uint32_t permission)
+{
+    size_t kept = 0;
+    for (size_t i = 0; i < second->past_count; i++)
+        if (second->past[i].permission != permission)
+            second->past[kept++] = second->past[i];
+    second->past_count = kept;
+}
+
+void second_copy(struct second *to, const struct second *from)
+{
+    memcpy(to, from, offsetof(struct second, past) + from->past_count * sizeof from->past[0]);
+}
+
 /* ---- permissions */
 
 /* The place of a permission among those of which something is known. */
@@ -117,6 +214,7 @@ static bool stands_at(const struct second *second, uint32_t permission, size_t i
     return i < second->used && second->permission[i] == permission;
 }
 
+/* As it was worked out at the permission's last event: those of others change none of its holder sets. */
 second_sets second_possible(const struct second *second, uint32_t permission)
 {
     size_t i = place(second, permission);
@@ -162,7 +260,7 @@ static bool known_set(const struct second *second, uint64_t set)
     return set < UINT64_C(1) << second->n;
 }
 
-uint32_t second_open(struct second *second, size_t len, uint64_t n)
+uint32_t second_open(struct second *second, size_t len, uint64_t n, uint32_t state)
 {
     if (len != SECOND_BYTES)
         return 1;
@@ -171,13 +269,31 @@ uint32_t second_open(struct second *second, size_t len, uint64_t n)
     if (n > SECOND_ROLES)
         abort();
     second->n = n;
+    second->state = state;
     second->used = 0;
+    second->past_count = 0;
     return 0;
 }
 
-uint32_t second_event(struct second *second, size_t len, uint32_t permission, uint64_t kind, uint64_t number)
+/* A reply is timely in the state that it names, an update in the one before that which it makes. */
+static uint32_t untimely(uint32_t present, bool reply, uint32_t state)
 {
-    bool reply = kind < SECOND_WITHDRAWN;
+    if (state < present || (!reply && state == present))
+        return 13;
+    return state - present > (reply ? 0 : 1) ? 14 : 0;
+}
+
+static void forget(struct second *second, uint32_t permission)
+{
+    drop_past(second, permission);
+    learn(second, permission, second_all(second->n));
+}
+
+uint32_t second_event(struct second *second, size_t len, uint32_t permission, uint64_t kind, uint64_t number,
+                      uint32_t state)
+{
+    bool reply = is_reply(kind);
+    size_t past_count = second->past_count;
     if (bad_area(second, len))
         return 1;
     if (permission == 0)
@@ -186,14 +302,23 @@ uint32_t second_event(struct second *second, size_t len, uint32_t permission, ui
         return 5;
     if (reply ? !known_set(second, number) : number >= second->n)
         return 4;
-    second_sets possible = after(second_possible(second, permission), kind, number);
-    if (possible == 0)
-        return 6;
+    uint32_t refusal = untimely(second->state, reply, state);
+    if (refusal != 0)
+        return refusal;
+    remember(second, (struct second_recorded){permission, state, kind, number});
+    second_sets possible = possible_in(second, permission, state);
     bool room = fits(second, permission, possible);
-    if (reply && !room)
-        return 7;
-    learn(second, permission, room ? possible : second_all(second->n));
-    return room ? 0 : 8;
+    if (reply && (possible == 0 || !room)) {
+        second->past_count = past_count;
+        return possible == 0 ? 6 : 7;
+    }
+    second->state = state;
+    if (!room) {
+        forget(second, permission);
+        return 8;
+    }
+    learn(second, permission, possible);
+    return 0;
 }
 
 static struct second_decided without_role(uint32_t answer)
@@ -223,22 +348,22 @@ uint32_t second_forget(struct second *second, size_t len, uint32_t permission)
         return 1;
     if (permission == 0)
         return 3;
-    learn(second, permission, second_all(second->n));
+    forget(second, permission);
     return 0;
 }
 
 /* ---- the area's bytes */
 
-enum { BODIES = 2 + 2 * SECOND_ROWS, BODY = 1 + SECOND_OPENS };
+enum { CONTENTS = SECOND_STATE_AT + 1, BODIES = CONTENTS + 2 * SECOND_ROWS, BODY = 1 + SECOND_OPENS };
 
 size_t second_permission_at(size_t row)
 {
-    return 2 + 2 * row;
+    return CONTENTS + 2 * row;
 }
 
 size_t second_count_at(size_t row)
 {
-    return 3 + 2 * row;
+    return CONTENTS + 2 * row + 1;
 }
 
 size_t second_denied_at(size_t row)
@@ -270,11 +395,10 @@ const size_t second_wrong_lengths[SECOND_WRONG_LENGTHS] = {
     1,
     8,
     SECOND_BYTES / 2,
-    SECOND_BYTES - 8,
+    18448, /* an area of before, without a policy state */
     SECOND_BYTES - 1,
     SECOND_BYTES + 1,
     SECOND_BYTES + 8,
-    18456,
     18968,
     2 * SECOND_BYTES,
     (size_t)1 << 31,
@@ -296,8 +420,11 @@ void second_area(const struct second *second, uint8_t *area)
     memset(area, 0, SECOND_BYTES);
     second_put(area, 0, second->n);
     second_put(area, 1, second->used);
+    second_put(area, SECOND_STATE_AT, second->state);
     for (size_t i = 0; i < second->used; i++) {
-        struct second_row row = second_row(second->possible[i], second->n);
+        /* read anew, in the state of now */
+        second_sets possible = possible_in(second, second->permission[i], second->state);
+        struct second_row row = second_row(possible, second->n);
         second_put_row(area, i, second->permission[i], row.denied, row.count, row.open);
     }
 }
@@ -340,7 +467,7 @@ bool second_good(const uint8_t *area)
 {
     uint64_t n = second_word(area, 0);
     uint64_t used = second_word(area, 1);
-    if (n < 1 || n > SECOND_MOST_ROLES || used > SECOND_ROWS)
+    if (n < 1 || n > SECOND_MOST_ROLES || used > SECOND_ROWS || second_word(area, SECOND_STATE_AT) > UINT32_MAX)
         return false;
     for (size_t i = 0; i < used; i++)
         if (!good_row(area, n, i))

@@ -6,6 +6,7 @@
 #include "../lines/streams.h"
 #include "groups.h"
 
+#include <stdbool.h>
 #include <stdio.h>
 #include <stdlib.h>
 #include <string.h>
@@ -53,30 +54,37 @@ static int stored(unsigned long seed, const char *name)
         (void)any();
     unsigned roles = 1 + (unsigned)any_below(WICKTHRUSH_MOST_ROLES), recorded = 0;
     uint64_t permissions = 1 + any_below(200), events = any_below(4000);
-    if (wickthrush_open(area, sizeof area, roles) != WICKTHRUSH_RECORDED)
+    uint32_t state = (uint32_t)(any() >> (32 + any_below(32)));
+    if (wickthrush_open(area, sizeof area, roles, state) != WICKTHRUSH_RECORDED)
         return 1;
     for (uint64_t k = 0; k < events; k++) {
         uint32_t permission = (uint32_t)(UINT32_MAX - any_below(permissions) * (UINT32_MAX / permissions));
         uint64_t kind = any_below(3) > 0 ? WICKTHRUSH_REPLY_ALLOW : WICKTHRUSH_REPLY_DENY;
         if (any_below(10) == 0)
             kind = any_below(2) > 0 ? WICKTHRUSH_GIVEN : WICKTHRUSH_WITHDRAWN;
-        uint64_t number = kind < WICKTHRUSH_WITHDRAWN ? any_set(roles) : any_below(roles);
-        recorded += wickthrush_event(area, sizeof area, permission, kind, number) == WICKTHRUSH_RECORDED;
+        bool update = kind >= WICKTHRUSH_WITHDRAWN;
+        uint64_t number = update ? any_below(roles) : any_set(roles);
+        uint32_t answer = wickthrush_event(area, sizeof area, permission, kind, number, state + update);
+        recorded += answer == WICKTHRUSH_RECORDED;
+        state += update && (answer == WICKTHRUSH_RECORDED || answer == WICKTHRUSH_FORGOTTEN);
     }
     return events > 10 && recorded == 0 ? 1 : write_area(name);
 }
 
 static int full(const char *name)
 {
-    if (wickthrush_open(area, sizeof area, WICKTHRUSH_MOST_ROLES) != WICKTHRUSH_RECORDED)
+    if (wickthrush_open(area, sizeof area, WICKTHRUSH_MOST_ROLES, UINT32_MAX) != WICKTHRUSH_RECORDED)
         return 1;
     for (uint32_t row = 0; row < WICKTHRUSH_MOST_ROWS; row++) {
-        if (wickthrush_event(area, sizeof area, UINT32_MAX - row, WICKTHRUSH_REPLY_DENY, UINT64_C(0xffff) << 48) != 0)
+        if (wickthrush_event(area, sizeof area, UINT32_MAX - row, WICKTHRUSH_REPLY_DENY, UINT64_C(0xffff) << 48,
+                             UINT32_MAX) != 0)
             return 1;
-        for (unsigned k = 0; k < WICKTHRUSH_MOST_OPEN_SETS; k++)
+        for (unsigned k = 0; k < WICKTHRUSH_MOST_OPEN_SETS; k++) {
+            uint64_t lacking = UINT64_C(1) << (16 + k) | UINT64_C(1) << (31 + row % 16);
             if (wickthrush_event(area, sizeof area, UINT32_MAX - row, WICKTHRUSH_REPLY_ALLOW,
-                                 UINT64_C(0xffffffff0000) & ~(UINT64_C(1) << (16 + k)) & ~(UINT64_C(1) << (31 + row % 16))) != 0)
+                                 UINT64_C(0xffffffff0000) & ~lacking, UINT32_MAX) != 0)
                 return 1;
+        }
     }
     return write_area(name);
 }

@@ -15,18 +15,19 @@ struct call {
     size_t len;
     uint32_t permission;
     uint64_t kind, number;
+    uint32_t state; /* of open and events */
 };
 
 static uint8_t area[AREA_BYTES], other[AREA_BYTES], kept[AREA_BYTES];
-static unsigned long times[13], asked[WICKTHRUSH_MOST_ROLES], good_areas, bad_areas;
+static unsigned long times[15], asked[WICKTHRUSH_MOST_ROLES], good_areas, bad_areas;
 
 /* The answer; decide alone gives a role too. */
 static uint32_t ask_library(const struct call *c, uint32_t *role)
 {
     wickthrush_decided decided;
     switch (c->what) {
-    case OPEN: return wickthrush_open(area, c->len, c->number);
-    case EVENT: return wickthrush_event(area, c->len, c->permission, c->kind, c->number);
+    case OPEN: return wickthrush_open(area, c->len, c->number, c->state);
+    case EVENT: return wickthrush_event(area, c->len, c->permission, c->kind, c->number, c->state);
     case DECIDE:
         decided = wickthrush_decide(area, c->len, c->permission, c->number);
         *role = decided.role;
@@ -39,8 +40,8 @@ static uint32_t ask_yardstick(const struct call *c, uint32_t *role)
 {
     struct yardstick_decided decided;
     switch (c->what) {
-    case OPEN: return yardstick_open(other, c->len, c->number);
-    case EVENT: return yardstick_event(other, c->len, c->permission, c->kind, c->number);
+    case OPEN: return yardstick_open(other, c->len, c->number, c->state);
+    case EVENT: return yardstick_event(other, c->len, c->permission, c->kind, c->number, c->state);
     case DECIDE:
         decided = yardstick_decide(other, c->len, c->permission, c->number);
         *role = decided.role;
@@ -56,9 +57,10 @@ static uint32_t both(const struct call *c)
     uint32_t answer = ask_library(c, &role), expected = ask_yardstick(c, &expected_role);
     bool same =
         check(answer == expected && role == expected_role,
-              "call %d, permission %lu, kind %#llx, number %#llx: %lu with role %lu instead of %lu with role %lu",
+              "call %d, permission %lu, kind %#llx, number %#llx, state %lu: %lu with role %lu, not %lu with %lu",
               (int)c->what, (unsigned long)c->permission, (unsigned long long)c->kind, (unsigned long long)c->number,
-              (unsigned long)answer, (unsigned long)role, (unsigned long)expected, (unsigned long)expected_role);
+              (unsigned long)c->state, (unsigned long)answer, (unsigned long)role, (unsigned long)expected,
+              (unsigned long)expected_role);
     same &= check(memcmp(area, other, AREA_BYTES) == 0, "call %d answered %lu: the areas differ", (int)c->what,
                   (unsigned long)answer);
     /* One difference must not show up again in all that follows. */
@@ -75,7 +77,9 @@ static uint32_t both(const struct call *c)
 
 static const uint64_t odd_numbers[] = {
     2, 3, 4, 5, 63, 64, 65, 255, 256, UINT64_C(1) << 32, (UINT64_C(1) << 32) + 3, UINT64_C(1) << 63, UINT64_MAX};
-static const size_t odd_lengths[] = {0, 1, AREA_BYTES - 8, AREA_BYTES - 1, AREA_BYTES + 1, AREA_BYTES + 8, SIZE_MAX};
+static const size_t odd_lengths[] = {0, 1, 18448, AREA_BYTES - 1, AREA_BYTES + 1, AREA_BYTES + 8, SIZE_MAX};
+static const uint32_t odd_states[] = {0,         1, 2, 255, 65536, UINT32_C(1) << 31, UINT32_MAX - 2, UINT32_MAX - 1,
+                                      UINT32_MAX};
 
 #define ANY_OF(list) ((list)[any_below(sizeof(list) / sizeof(list)[0])])
 
@@ -106,10 +110,20 @@ static uint32_t any_permission(const struct style *style)
     return any_below(64) ? permission : UINT32_MAX - permission;
 }
 
+static uint32_t any_state(void)
+{
+    return any_below(2) ? ANY_OF(odd_states) : (uint32_t)any();
+}
+
+/* Mostly in time. The state of a damaged area may be anything. */
 static struct call any_event(const struct style *style, uint64_t kind)
 {
-    uint64_t number = kind < YARDSTICK_WITHDRAWN ? any_set(style) : any_below(style->n);
-    return (struct call){EVENT, AREA_BYTES, any_permission(style), kind, number};
+    bool reply = kind < YARDSTICK_WITHDRAWN;
+    uint32_t state = (uint32_t)word(area, STATE_AT) + !reply;
+    if (any_below(10) == 0)
+        state = any_below(2) ? state + (uint32_t)any_below(7) - 3 : any_state();
+    uint64_t number = reply ? any_set(style) : any_below(style->n);
+    return (struct call){EVENT, AREA_BYTES, any_permission(style), kind, number, state};
 }
 
 static struct call any_call(const struct style *style)
@@ -127,12 +141,14 @@ static struct call any_call(const struct style *style)
 
 static void spoil(struct call *c)
 {
-    switch (any_below(5)) {
+    switch (any_below(6)) {
     case 0: c->len = ANY_OF(odd_lengths); break;
     case 1: c->permission = 0; break;
     case 2: c->kind = ANY_OF(odd_numbers); break;
     case 3: c->number = ANY_OF(odd_numbers); break;
-    default: *c = (struct call){OPEN, AREA_BYTES, 0, 0, any_below(2) ? ANY_OF(odd_numbers) : any_below(66)};
+    case 4: c->state = any_state(); break;
+    default:
+        *c = (struct call){OPEN, AREA_BYTES, 0, 0, any_below(2) ? ANY_OF(odd_numbers) : any_below(66), any_state()};
     }
 }
 
@@ -143,7 +159,7 @@ static void stream(const struct style *style, unsigned calls, unsigned odd)
         if (any_below(100) < odd)
             spoil(&c);
         if (both(&c) == 0 && c.what == OPEN)
-            both(&(struct call){OPEN, AREA_BYTES, 0, 0, style->n});
+            both(&(struct call){OPEN, AREA_BYTES, 0, 0, style->n, any_state()});
     }
 }
 
@@ -163,8 +179,8 @@ static void good_streams(void)
         struct style style = any_style();
         for (size_t i = 0; i < AREA_BYTES; i++)
             area[i] = other[i] = (uint8_t)any();
-        both(&(struct call){EVENT, AREA_BYTES, 1, YARDSTICK_DENY, 1});
-        both(&(struct call){OPEN, AREA_BYTES, 0, 0, style.n});
+        both(&(struct call){EVENT, AREA_BYTES, 1, YARDSTICK_DENY, 1, 0});
+        both(&(struct call){OPEN, AREA_BYTES, 0, 0, style.n, any_state()});
         stream(&style, 250, 10);
         check(yardstick_good(area, AREA_BYTES), "the area breaks a layout rule");
     }
@@ -203,13 +219,13 @@ static void every_call(const struct style *style)
         struct call c = any_event(style, kind);
         both(&c);
     }
-    both(&(struct call){DECIDE, AREA_BYTES, any_permission(style), 0, any_set(style)});
-    both(&(struct call){FORGET, AREA_BYTES, any_permission(style), 0, 0});
+    both(&(struct call){DECIDE, AREA_BYTES, any_permission(style), 0, any_set(style), 0});
+    both(&(struct call){FORGET, AREA_BYTES, any_permission(style), 0, 0, 0});
 }
 
 static void decide_once(void)
 {
-    both(&(struct call){DECIDE, AREA_BYTES, permission_of(0), 0, 1});
+    both(&(struct call){DECIDE, AREA_BYTES, permission_of(0), 0, 1, 0});
 }
 
 /* Role counts and row counts of every size, over rows that are there or not. */
@@ -256,7 +272,7 @@ static void damage(uint64_t n)
     size_t i = rows - 1 < MOST_ROWS ? any_below(rows) : 0;
     uint64_t count = word(area, contents_at(i) + 1);
     size_t set = body_at(i) + any_below(count < MOST_OPENS ? count + 2 : BODY_WORDS);
-    switch (any_below(10)) {
+    switch (any_below(11)) {
     case 0: put_both(0, any_below(70)); break;
     case 1: put_both(1, rows + any_below(3) - 1); break;
     case 2: put_both(contents_at(i), word(area, contents_at(i)) + any_below(5) - 2); break;
@@ -266,6 +282,7 @@ static void damage(uint64_t n)
     case 6: put_both(set, word(area, body_at(i) + any_below(BODY_WORDS))); break;
     case 7: put_both(set, word(area, set) & any()); break;
     case 8: put_both(set, word(area, set) | UINT64_C(1) << any_below(n < 63 ? n + 1 : 64)); break;
+    case 9: put_both(STATE_AT, any() >> any_below(64)); break;
     default: put_both(any_below(AREA_WORDS), any()); break;
     }
 }
@@ -275,7 +292,7 @@ static void damaged_areas(void)
     group("damaged areas");
     for (unsigned round = 0; round < 150; round++) {
         struct style style = any_style();
-        both(&(struct call){OPEN, AREA_BYTES, 0, 0, style.n});
+        both(&(struct call){OPEN, AREA_BYTES, 0, 0, style.n, any_state()});
         stream(&style, 60, 0);
         memcpy(kept, area, AREA_BYTES);
         for (unsigned times_damaged = 0; times_damaged < 40; times_damaged++) {
@@ -299,6 +316,7 @@ static void random_areas(void)
         uint64_t rows = any_below(3), permission = 0;
         put_both(0, style.n);
         put_both(1, rows);
+        put_both(STATE_AT, any_state());
         for (size_t i = 0; i < rows; i++) {
             uint64_t count = any_below(4), set = 0;
             permission += any_below(8) ? 1 + any_below(2) : 0;

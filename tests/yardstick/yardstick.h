@@ -14,8 +14,9 @@ struct yardstick_decided {
     uint32_t answer, role;
 };
 
-uint32_t yardstick_open(uint8_t *area, size_t len, uint64_t role_count);
-uint32_t yardstick_event(uint8_t *area, size_t len, uint32_t permission, uint64_t kind, uint64_t number);
+uint32_t yardstick_open(uint8_t *area, size_t len, uint64_t role_count, uint32_t state);
+uint32_t yardstick_event(uint8_t *area, size_t len, uint32_t permission, uint64_t kind, uint64_t number,
+                         uint32_t state);
 struct yardstick_decided yardstick_decide(const uint8_t *area, size_t len, uint32_t permission, uint64_t set);
 uint32_t yardstick_forget(uint8_t *area, size_t len, uint32_t permission);
 

@@ -33,7 +33,7 @@ three-fields k a h =
 
 no-name : (l : List ℕ) (q : Request) → ¬ (T (isDecide q) × (answerOf l q .answer .answer ≡ 12)) → answerOf l q .answer .role ≡ mostRoles
 unfolding answerOf
-no-name l (Open n) h = refl
+no-name l (Open n g) h = refl
 no-name l (Told e) h = refl
 no-name l (Decide p s) h = whom .otherwise l p (s .bits) .1 (λ e. h (tt, e))
 no-name l (Forget p) h = refl

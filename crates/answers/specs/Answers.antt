@@ -36,7 +36,7 @@ abbrev pub plain : Out → Answered
 plain o = record { answer = bare (o .answer); area = o .area }
 
 unfoldable pub answerOf : List ℕ → Request → Answered
-answerOf l (Open n) = plain (openOf l n)
+answerOf l (Open n g) = plain (openOf l n g)
 answerOf l (Told e) = plain (outOf (callOf e) l)
 answerOf l (Decide p s) = record { answer = decideOf l p (s .bits); area = l }
 answerOf l (Forget p) = plain (forgetOf l p)
@@ -44,7 +44,7 @@ answerOf l Show = plain (stays (startAnswer l) l)
 answerOf l Unreadable = plain (stays (numberOf answers.Unreadable) l)
 
 unfoldable pub firstShown : List ℕ → Request → ℕ
-firstShown l (Open n) = mostRows
+firstShown l (Open n g) = mostRows
 firstShown l (Told e) = mostRows
 firstShown l (Decide p s) = mostRows
 firstShown l (Forget p) = mostRows
@@ -56,7 +56,7 @@ pub record Answers (l : List ℕ) (q : Request) (k at : ℕ) (d : List ℕ) (r :
   pub written : AnswerShown k (answerOf l q .answer) (answerOf l q .area) (firstShown l q) at d r e
 
 abbrev pub isDecide : Request → Bool
-isDecide (Open n) = false
+isDecide (Open n g) = false
 isDecide (Told e) = false
 isDecide (Decide p s) = true
 isDecide (Forget p) = false

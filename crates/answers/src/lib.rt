@@ -31,11 +31,12 @@ fn tell(area: &mut [u8], e: Event) -> Answer
 {
     let p = e.permission;
     let h = e.happening;
+    let g = e.state;
     match h {
-        Happening::Deny(s) => cache::event(area, p, 0, s.bits),
-        Happening::Allow(s) => cache::event(area, p, 1, s.bits),
-        Happening::Withdrawn(r) => cache::event(area, p, 2, r),
-        Happening::Given(r) => cache::event(area, p, 3, r),
+        Happening::Deny(s) => cache::event(area, p, 0, s.bits, g),
+        Happening::Allow(s) => cache::event(area, p, 1, s.bits, g),
+        Happening::Withdrawn(r) => cache::event(area, p, 2, r, g),
+        Happening::Given(r) => cache::event(area, p, 3, r, g),
     }
 }
 
@@ -57,7 +58,7 @@ pub fn answer(area: &mut [u8], q: Request, line: u64, out: &mut [u8], at: usize)
     ensures { λ r. ⌜ Answers (now (area .entry)) q line at (now (out .entry)) r (now (area .exit)) (now (out .exit)) ⌝ }
 {
     match q {
-        Request::Open(n) => write_only(out, at, line, bare(cache::open(area, n))),
+        Request::Open(n, g) => write_only(out, at, line, bare(cache::open(area, n, g))),
         Request::Told(e) => write_only(out, at, line, bare(tell(area, e))),
         Request::Decide(p, s) => write_only(out, at, line, cache::decide(area, p, s.bits)),
         Request::Forget(p) => write_only(out, at, line, bare(cache::forget(area, p))),

@@ -63,12 +63,12 @@ neither false y = refl
 count-is : (n : ℕ) (b : Bool) → (ltb n 1 || ltb mostRoles n) ≡ b → (leb 1 n && leb n mostRoles) ≡ not b
 count-is n b e = ap₂ (λ (x y : Bool). x && y) (leb-not 1 n) (leb-not n mostRoles) ∙ neither (ltb n 1) (ltb mostRoles n) ∙ ap not e
 
-module _ (l : List ℕ) (n : ℕ) where
-  pub open-1 : (length l ≡ areaBytes → ⊥) → Gives (openOf l n) BadArea l
-  open-1 h = gives (openOf l n) BadArea l (open-bad-area l n (ne-eqb (length l) areaBytes h))
+module _ (l : List ℕ) (n g : ℕ) where
+  pub open-1 : (length l ≡ areaBytes → ⊥) → Gives (openOf l n g) BadArea l
+  open-1 h = gives (openOf l n g) BadArea l (open-bad-area l n g (ne-eqb (length l) areaBytes h))
 
-  pub open-2 : length l ≡ areaBytes → (ltb n 1 || ltb mostRoles n) ≡ true → Gives (openOf l n) BadRoleCount l
-  open-2 h k = gives (openOf l n) BadRoleCount l (open-bad-count l n (eq-eqb (length l) areaBytes h) (count-is n true k))
+  pub open-2 : length l ≡ areaBytes → (ltb n 1 || ltb mostRoles n) ≡ true → Gives (openOf l n g) BadRoleCount l
+  open-2 h k = gives (openOf l n g) BadRoleCount l (open-bad-count l n g (eq-eqb (length l) areaBytes h) (count-is n true k))
 
-  pub open-go : (m : List ℕ) → length l ≡ areaBytes → (ltb n 1 || ltb mostRoles n) ≡ false → m ≡ areaOf (opened n) → Gives (openOf l n) Recorded m
-  open-go m h k e = gives (openOf l n) Recorded m (open-recorded l n (eq-eqb (length l) areaBytes h) (count-is n false k) ∙ ap (stays 0) (sym e))
+  pub open-go : (m : List ℕ) → length l ≡ areaBytes → (ltb n 1 || ltb mostRoles n) ≡ false → m ≡ areaOf (opened n g) → Gives (openOf l n g) Recorded m
+  open-go m h k e = gives (openOf l n g) Recorded m (open-recorded l n g (eq-eqb (length l) areaBytes h) (count-is n false k) ∙ ap (stays 0) (sym e))

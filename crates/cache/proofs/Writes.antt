@@ -26,8 +26,8 @@ use Rattle.rows.specs.Stored.{Tidy, Proper, held, rowOf, storedRow, answerNumbe
 use Rattle.rows.proofs.Padded.{stored⇒tidy, stored⇒proper, stored⇒row, tidy-count}
 use Rattle.table.specs.Table.{rowsIn, Sound, holding, nth, foundFor}
 use Rattle.table.specs.declared.Found.the-variants.{At, Vacant}
-use Rattle.calls.specs.Calls.{eventIn}
 use Rattle.calls.proofs.CallLaws.{eventOn, event-in}
+use Rattle.cache.specs.Here.{eventHere}
 use Rattle.cache.proofs.Places.{found-at, found-vacant}
 
 module _ (l : List ℕ) (s : Sound l) (p i : ℕ) where
@@ -68,8 +68,8 @@ module _ (l : List ℕ) (s : Sound l) (p i : ℕ) where
     pub row-none : rowFor p (rowsIn l) ≡ blank
     row-none = miss-row (stateOf l .roles) 0 p (rowsIn l) (good-state l (s .good) .good-rows) miss
 
-    pub event-none : (h : Happening) → eventIn l p h ≡ eventOn l (stateOf l) p h blank
-    event-none h = event-in l p h ∙ ap (eventOn l (stateOf l) p h) row-none
+    pub event-none : (h : Happening) → eventHere l p h ≡ eventOn l (stateOf l) p h blank
+    event-none h = event-in l p h (stateOf l .policy) ∙ ap (eventOn l (stateOf l) p h) row-none
 
     pub state-new : (w : Row) → isBlank w ≡ false → holding l (insertAt i (entry p w) (rowsIn l)) ≡ withRow (stateOf l) p w
     state-new w b = ap (holding l) (ap (λ (k : ℕ). insertAt k (entry p w) (rowsIn l)) place-is ∙ sym (put-new p w (rowsIn l) miss b))

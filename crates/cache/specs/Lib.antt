@@ -1,2 +1,3 @@
 -- What the contracts of `cache` cite beside the definitions of `calls`.
 pub mod Fresh
+pub mod Here

@@ -17,7 +17,9 @@ use table::Found;
 use table::clear_all;
 use table::find;
 use table::insert_at;
+use table::policy_state;
 use table::put_at;
+use table::put_policy_state;
 use table::remove_at;
 use table::role_count;
 use table::row_at;
@@ -27,15 +29,16 @@ ghost use mathlib.Core.Bool.{cond};
 ghost use Prim.Native.Nat.{_≤_};
 ghost use lib.Dec.{T};
 ghost use Rattle.roles.specs.Sets.{mostRoles, allBelow, partOf};
-ghost use Rattle.meaning.specs.Events.{known, isReply};
+ghost use Rattle.meaning.specs.Events.{known, isReply, lastPolicyState};
 ghost use Rattle.meaning.specs.Rows.{blank, mostOpens, decide};
 ghost use Rattle.rows.specs.Stored.{Tidy, rowOf, storedRow};
-ghost use Rattle.area.specs.State.{isBlank, rowFor, withRow, stateOf, areaOf};
+ghost use Rattle.area.specs.State.{inPolicy, isBlank, rowFor, withRow, stateOf, areaOf};
 ghost use Rattle.table.specs.Table.{rowsIn, Sound, foundFor};
 ghost use Rattle.table.specs.declared.Found.the-variants.{At, Vacant};
-ghost use Rattle.calls.specs.Calls.{happened, eventIn, openOf, eventOf, decideOf, forgetOf};
+ghost use Rattle.calls.specs.Calls.{happened, due, eventIn, openOf, eventOf, decideOf, forgetOf};
 ghost use Rattle.calls.specs.Answers.{numberOf, Gives, decidedOf};
 ghost use Rattle.cache.specs.Fresh.{Fresh};
+ghost use Rattle.cache.specs.Here.{eventHere};
 
 // Kinds of event are 0 to this one.
 const LAST_KIND: u64 = 3;
@@ -133,7 +136,7 @@ fn put_over(a: &mut [u8], i: usize, p: u32, w: Row)
 // An event about a permission with a row.
 fn enter_over(a: &mut [u8], i: usize, p: u32, e: Happening) -> Answer
     requires { ⌜ Sound (now a) × (foundFor p (rowsIn (now a)) ≡ At i) × T (known (stateOf (now a) .roles) e) ⌝ }
-    ensures { λ r. ⌜ Gives (eventIn (now (a .entry)) p e) r (now (a .exit)) ⌝ }
+    ensures { λ r. ⌜ Gives (eventHere (now (a .entry)) p e) r (now (a .exit)) ⌝ }
 {
     let settled = settle(row_at(a, i), e);
     let w = settled.row;
@@ -167,7 +170,7 @@ fn no_room(e: Happening) -> Answer
 // The first row of a permission, after the event e.
 fn put_new(a: &mut [u8], i: usize, p: u32, e: Happening, w: Row) -> Answer
     requires { ⌜ Sound (now a) × (foundFor p (rowsIn (now a)) ≡ Vacant i) × Fresh e w ⌝ }
-    ensures { λ r. ⌜ Gives (eventIn (now (a .entry)) p e) r (now (a .exit)) ⌝ }
+    ensures { λ r. ⌜ Gives (eventHere (now (a .entry)) p e) r (now (a .exit)) ⌝ }
 {
     if is_blank(w) {
         return Answer::Recorded;
@@ -182,7 +185,7 @@ fn put_new(a: &mut [u8], i: usize, p: u32, e: Happening, w: Row) -> Answer
 // An event about a permission without a row: where it is not recorded there is nothing to change.
 fn enter_new(a: &mut [u8], i: usize, p: u32, e: Happening) -> Answer
     requires { ⌜ Sound (now a) × (foundFor p (rowsIn (now a)) ≡ Vacant i) × T (known (stateOf (now a) .roles) e) ⌝ }
-    ensures { λ r. ⌜ Gives (eventIn (now (a .entry)) p e) r (now (a .exit)) ⌝ }
+    ensures { λ r. ⌜ Gives (eventHere (now (a .entry)) p e) r (now (a .exit)) ⌝ }
 {
     let settled = settle(blank(), e);
     let w = settled.row;
@@ -195,17 +198,56 @@ fn enter_new(a: &mut [u8], i: usize, p: u32, e: Happening) -> Answer
     }
 }
 
-// An event of known roles: over its permission's row, or as its first one.
-fn enter(a: &mut [u8], event: Event) -> Answer
-    requires { ⌜ Sound (now a) × T (known (stateOf (now a) .roles) (event .happening)) ⌝ }
-    ensures { λ r. ⌜ Gives (eventIn (now (a .entry)) (event .permission) (event .happening)) r (now (a .exit)) ⌝ }
+// An event over its permission's row, or as its first one.
+fn enter_row(a: &mut [u8], p: u32, e: Happening) -> Answer
+    requires { ⌜ Sound (now a) × T (known (stateOf (now a) .roles) e) ⌝ }
+    ensures { λ r. ⌜ Gives (eventHere (now (a .entry)) p e) r (now (a .exit)) ⌝ }
 {
-    let p = event.permission;
-    let e = event.happening;
     match find(a, p) {
         Found::At(i) => enter_over(a, i, p, e),
         Found::Vacant(i) => enter_new(a, i, p, e),
     }
+}
+
+fn is_reply(e: Happening) -> bool
+    ensures { λ b. ⌜ b ≡ isReply e ⌝ }
+{
+    match e {
+        Happening::Allow(_) => true,
+        Happening::Deny(_) => true,
+        Happening::Given(_) => false,
+        Happening::Withdrawn(_) => false,
+    }
+}
+
+// The policy state in which an event counts.
+fn due(e: Happening, policy: u64) -> u64
+    requires { ⌜ policy ≤ lastPolicyState ⌝ }
+    ensures { λ g. ⌜ g ≡ due e policy ⌝ }
+{
+    if is_reply(e) { policy } else { policy + 1 }
+}
+
+// The area in the state that an event names: an update moves it there, and a reply finds it there.
+fn move_on(a: &mut [u8], e: Happening, g: u32)
+    requires { ⌜ Sound (now a) × (g ≡ due e (stateOf (now a) .policy)) ⌝ }
+    ensures { λ _. ⌜ now (a .exit) ≡ areaOf (inPolicy g (stateOf (now (a .entry)))) ⌝ }
+{
+    if is_reply(e) {
+        return;
+    }
+    put_policy_state(a, g);
+}
+
+// An event of known roles that counts. No update is refused any more, so the area may go to its state first.
+fn enter(a: &mut [u8], event: Event) -> Answer
+    requires { ⌜ Sound (now a) × T (known (stateOf (now a) .roles) (event .happening)) × (event .state ≡ due (event .happening) (stateOf (now a) .policy)) × (event .state ≤ lastPolicyState) ⌝ }
+    ensures { λ r. ⌜ Gives (eventIn (now (a .entry)) (event .permission) (event .happening) (event .state)) r (now (a .exit)) ⌝ }
+{
+    let p = event.permission;
+    let e = event.happening;
+    move_on(a, e, event.state);
+    enter_row(a, p, e)
 }
 
 // What happened, as kind and number say it; a kind above LAST_KIND is refused before.
@@ -220,8 +262,8 @@ fn happened(kind: u64, number: u64) -> Happening
     }
 }
 
-pub fn event(a: &mut [u8], p: u32, kind: u64, number: u64) -> Answer
-    ensures { λ r. ⌜ Gives (eventOf (now (a .entry)) p kind number) r (now (a .exit)) ⌝ }
+pub fn event(a: &mut [u8], p: u32, kind: u64, number: u64, state: u32) -> Answer
+    ensures { λ r. ⌜ Gives (eventOf (now (a .entry)) p kind number state) r (now (a .exit)) ⌝ }
 {
     if !check(a) {
         return Answer::BadArea;
@@ -236,11 +278,19 @@ pub fn event(a: &mut [u8], p: u32, kind: u64, number: u64) -> Answer
     if !is_known(e, role_count(a)) {
         return Answer::UnknownRole;
     }
+    let due = due(e, policy_state(a));
+    if (state as u64) < due {
+        return Answer::Late;
+    }
+    if due < state as u64 {
+        return Answer::Ahead;
+    }
     enter(
         a,
         Event {
             permission: p,
             happening: e,
+            state,
         },
     )
 }
@@ -270,8 +320,8 @@ pub fn forget(a: &mut [u8], p: u32) -> Answer
     Answer::Recorded
 }
 
-pub fn open(a: &mut [u8], n: u64) -> Answer
-    ensures { λ r. ⌜ Gives (openOf (now (a .entry)) n) r (now (a .exit)) ⌝ }
+pub fn open(a: &mut [u8], n: u64, state: u32) -> Answer
+    ensures { λ r. ⌜ Gives (openOf (now (a .entry)) n state) r (now (a .exit)) ⌝ }
 {
     if a.len() != AREA_BYTES {
         return Answer::BadArea;
@@ -279,6 +329,6 @@ pub fn open(a: &mut [u8], n: u64) -> Answer
     if (n < 1) | (MOST_ROLES < n) {
         return Answer::BadRoleCount;
     }
-    clear_all(a, n);
+    clear_all(a, n, state);
     Answer::Recorded
 }

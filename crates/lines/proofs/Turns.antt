@@ -59,7 +59,7 @@ module _ (m : Place) where
 -- the rows that follow an answer are those from the first on that is to be shown
 shown-first : (l : List ℕ) (q : Request) → rowsText (shown l q) ≡ rowsText (drop (firstShown l q) (walked (answerOf l q .area)))
 unfolding shown firstShown answerOf rowsText
-shown-first l (Open n) = sym (past-rows mostRows _ (omega arith))
+shown-first l (Open n g) = sym (past-rows mostRows _ (omega arith))
 shown-first l (Told e) = sym (past-rows mostRows _ (omega arith))
 shown-first l (Decide p s) = sym (past-rows mostRows _ (omega arith))
 shown-first l (Forget p) = sym (past-rows mostRows _ (omega arith))

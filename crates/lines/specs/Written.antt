@@ -23,7 +23,7 @@ use Rattle.answers.specs.Texts.{answerText, rowText}
 -- ---- the rows that follow an answer
 
 unfoldable pub shown : List ℕ → Request → List Entry
-shown l (Open n) = []
+shown l (Open n g) = []
 shown l (Told e) = []
 shown l (Decide p s) = []
 shown l (Forget p) = []

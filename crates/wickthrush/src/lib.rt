@@ -9,18 +9,24 @@ ghost use Rattle.print.specs.Print.{printOpenOf, printRowOf, Prints};
 ghost use Rattle.wickthrush.specs.Numbers.{Returns, decidedOf};
 
 #[no_mangle]
-pub extern "C" fn wickthrush_open(area: &mut [u8], roles: u64) -> u32
-    ensures { λ n. ⌜ Returns (openOf (now (area .entry)) roles) n (now (area .exit)) ⌝ }
+pub extern "C" fn wickthrush_open(area: &mut [u8], roles: u64, state: u32) -> u32
+    ensures { λ n. ⌜ Returns (openOf (now (area .entry)) roles state) n (now (area .exit)) ⌝ }
 {
-    number(cache::open(area, roles))
+    number(cache::open(area, roles, state))
 }
 
 #[no_mangle]
-pub extern "C" fn wickthrush_event(area: &mut [u8], permission: u32, kind: u64, number: u64) -> u32
-    ensures { λ n. ⌜ Returns (eventOf (now (area .entry)) permission kind number) n (now (area .exit)) ⌝ }
+pub extern "C" fn wickthrush_event(
+    area: &mut [u8],
+    permission: u32,
+    kind: u64,
+    number: u64,
+    state: u32,
+) -> u32
+    ensures { λ n. ⌜ Returns (eventOf (now (area .entry)) permission kind number state) n (now (area .exit)) ⌝ }
 {
     // number is an argument here
-    calls::number(cache::event(area, permission, kind, number))
+    calls::number(cache::event(area, permission, kind, number, state))
 }
 
 // `wickthrush_decided` of the header. C gets it by value, so that a caller who takes it for the answer does not compile.

@@ -12,28 +12,28 @@ unfolding outOf callFor
 returns c =
     let k = c .before .before in
     let s = k .before .before .before .before .before .before in
-    subst⁻¹ (λ (x : Happening). Gives (outOf (callFor (s .args .e .permission) x) (s .args .area .now)) (k .event .result) (k .event .last .0)) (k .before .before .before .h .given .1) (k .event .ensures)
+    subst⁻¹ (λ (x : Happening). Gives (outOf (callFor (s .args .e .permission) x (s .args .e .state)) (s .args .area .now)) (k .event .result) (k .event .last .0)) (k .before .before .before .h .given .1) (k .event .ensures)
 
 returns-2 : tie.Need-returns-2
 unfolding outOf callFor
 returns-2 c =
     let k = c .before .before in
     let s = k .before .before .before .before .before .before in
-    subst⁻¹ (λ (x : Happening). Gives (outOf (callFor (s .args .e .permission) x) (s .args .area .now)) (k .event2 .result) (k .event2 .last .0)) (k .before .before .before .h2 .given .1) (k .event2 .ensures)
+    subst⁻¹ (λ (x : Happening). Gives (outOf (callFor (s .args .e .permission) x (s .args .e .state)) (s .args .area .now)) (k .event2 .result) (k .event2 .last .0)) (k .before .before .before .h2 .given .1) (k .event2 .ensures)
 
 returns-3 : tie.Need-returns-3
 unfolding outOf callFor
 returns-3 c =
     let k = c .before .before in
     let s = k .before .before .before .before .before .before in
-    subst⁻¹ (λ (x : Happening). Gives (outOf (callFor (s .args .e .permission) x) (s .args .area .now)) (k .event3 .result) (k .event3 .last .0)) (k .before .before .before .h3 .given .1) (k .event3 .ensures)
+    subst⁻¹ (λ (x : Happening). Gives (outOf (callFor (s .args .e .permission) x (s .args .e .state)) (s .args .area .now)) (k .event3 .result) (k .event3 .last .0)) (k .before .before .before .h3 .given .1) (k .event3 .ensures)
 
 returns-4 : tie.Need-returns-4
 unfolding outOf callFor
 returns-4 c =
     let k = c .before .before in
     let s = k .before .before .before .before .before .before in
-    subst⁻¹ (λ (x : Happening). Gives (outOf (callFor (s .args .e .permission) x) (s .args .area .now)) (k .event4 .result) (k .event4 .last .0)) (k .before .before .before .h4 .given .1) (k .event4 .ensures)
+    subst⁻¹ (λ (x : Happening). Gives (outOf (callFor (s .args .e .permission) x (s .args .e .state)) (s .args .area .now)) (k .event4 .result) (k .event4 .last .0)) (k .before .before .before .h4 .given .1) (k .event4 .ensures)
 
 pub tell-spec : {M : Type 1} → statement M
 tell-spec =

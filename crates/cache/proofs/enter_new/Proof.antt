@@ -20,9 +20,10 @@ use Rattle.table.specs.Table.{rowsIn, Sound, foundFor}
 use Rattle.table.specs.declared.Found.the-variants.{Vacant}
 use Rattle.calls.specs.declared.Answer.{Answer}
 use Rattle.calls.specs.declared.Answer.the-variants.{Contradiction, Full, Forgotten}
-use Rattle.calls.specs.Calls.{stays, settledIn, eventIn}
+use Rattle.calls.specs.Calls.{stays, settledIn}
 use Rattle.calls.specs.Answers.{numberOf, Gives}
 use Rattle.cache.specs.Fresh.{Fresh}
+use Rattle.cache.specs.Here.{eventHere}
 use Rattle.cache.proofs.Ladder.{gives, settled-refused, settled-stays, settled-writes}
 use Rattle.cache.proofs.Writes.{event-none, area-kept, blank-proper, known-64, answered}
 use Rattle.cache.proofs.enter_new.Statement.{statement}
@@ -31,12 +32,12 @@ use Rattle.cache.proofs.enter_new.Tie as tie
 -- ---- the cases, by the answer of the step
 
 module _ (l : List ℕ) (s : Sound l) (p i : ℕ) (e : Happening) (f : foundFor p (rowsIn l) ≡ Vacant i) where
-  refused : settle fits e blank .answer ≢ 0 → eventIn l p e ≡ settledIn l (stateOf l) p (settle fits e blank)
+  refused : settle fits e blank .answer ≢ 0 → eventHere l p e ≡ settledIn l (stateOf l) p (settle fits e blank)
   refused n = event-none l s p i f e ∙ settled-refused l (stateOf l) p e blank n
 
   -- 6 and 7
-  refuses : (r : Answer) → T (not (eqb (numberOf r) 0)) → settle fits e blank .answer ≡ numberOf r → (eqb (numberOf r) 0 || eqb (numberOf r) 8) ≡ false → Gives (eventIn l p e) r l
-  refuses r n a x = gives (eventIn l p e) r l (refused (λ z. unlike n (sym a ∙ z)) ∙ settled-stays l (stateOf l) p (settle fits e blank) (numberOf r) a x)
+  refuses : (r : Answer) → T (not (eqb (numberOf r) 0)) → settle fits e blank .answer ≡ numberOf r → (eqb (numberOf r) 0 || eqb (numberOf r) 8) ≡ false → Gives (eventHere l p e) r l
+  refuses r n a x = gives (eventHere l p e) r l (refused (λ z. unlike n (sym a ∙ z)) ∙ settled-stays l (stateOf l) p (settle fits e blank) (numberOf r) a x)
 
   -- there is no row to be dropped
   no-row : (t : Settled) → Case fits e blank t → t .answer ≡ 8 → isBlank (t .row) ≡ true
@@ -45,9 +46,9 @@ module _ (l : List ℕ) (s : Sound l) (p i : ℕ) (e : Happening) (f : foundFor 
   no-row t (no-room r c f) a = unlike tt a
   no-row t (dropped r f) a = refl
 
-  drops : Bytes l → settle fits e blank .answer ≡ 8 → Gives (eventIn l p e) Forgotten l
+  drops : Bytes l → settle fits e blank .answer ≡ 8 → Gives (eventHere l p e) Forgotten l
   drops bytes a =
-      gives (eventIn l p e) Forgotten l
+      gives (eventHere l p e) Forgotten l
       (refused (λ z. unlike tt (sym a ∙ z)) ∙ settled-writes l (stateOf l) p (settle fits e blank) 8 a refl
       ∙ ap (stays 8) (area-kept l s p i f (settle fits e blank .row) (no-row (settle fits e blank) (case fits e blank) a) bytes))
 

@@ -14,9 +14,10 @@ use Rattle.table.specs.Table.{rowsIn, Sound, foundFor}
 use Rattle.table.specs.declared.Found.the-variants.{At}
 use Rattle.calls.specs.declared.Answer.{Answer}
 use Rattle.calls.specs.declared.Answer.the-variants.{Recorded, Contradiction, Full, Forgotten}
-use Rattle.calls.specs.Calls.{stays, eventIn}
+use Rattle.calls.specs.Calls.{stays}
 use Rattle.calls.specs.Answers.{numberOf, Gives}
 use Rattle.calls.proofs.CallLaws.{event-in}
+use Rattle.cache.specs.Here.{eventHere}
 use Rattle.cache.proofs.Ladder.{gives, settled-over, settled-stays, settled-writes}
 use Rattle.cache.proofs.Writes.{row-inside, row-there, row-says, read-proper, known-64, answered, settled-row, settled-tidy}
 use Rattle.cache.proofs.enter_over.Statement.{statement}
@@ -29,15 +30,15 @@ module _ (l : List ℕ) (s : Sound l) (p i : ℕ) (e : Happening) (f : foundFor 
   v = rowFor p (rowsIn l)
 
   -- 6 and 7
-  refuses : (r : Answer) → settle fits e v .answer ≡ numberOf r → (eqb (numberOf r) 0 || eqb (numberOf r) 8) ≡ false → Gives (eventIn l p e) r l
-  refuses r a n = gives (eventIn l p e) r l (event-in l p e ∙ settled-over l (stateOf l) p e v (row-says l s p i f) ∙ settled-stays l (stateOf l) p (settle fits e v) (numberOf r) a n)
+  refuses : (r : Answer) → settle fits e v .answer ≡ numberOf r → (eqb (numberOf r) 0 || eqb (numberOf r) 8) ≡ false → Gives (eventHere l p e) r l
+  refuses r a n = gives (eventHere l p e) r l (event-in l p e (stateOf l .policy) ∙ settled-over l (stateOf l) p e v (row-says l s p i f) ∙ settled-stays l (stateOf l) p (settle fits e v) (numberOf r) a n)
 
   -- 0 and 8
   puts : (r : Answer) → settle fits e v .answer ≡ numberOf r → (eqb (numberOf r) 0 || eqb (numberOf r) 8) ≡ true
-      → (w : Row) (m : List ℕ) → w ≡ settle fits e v .row → m ≡ areaOf (withRow (stateOf l) p w) → Gives (eventIn l p e) r m
+      → (w : Row) (m : List ℕ) → w ≡ settle fits e v .row → m ≡ areaOf (withRow (stateOf l) p w) → Gives (eventHere l p e) r m
   puts r a n w m x q =
-      gives (eventIn l p e) r m
-      (event-in l p e ∙ settled-over l (stateOf l) p e v (row-says l s p i f) ∙ settled-writes l (stateOf l) p (settle fits e v) (numberOf r) a n
+      gives (eventHere l p e) r m
+      (event-in l p e (stateOf l .policy) ∙ settled-over l (stateOf l) p e v (row-says l s p i f) ∙ settled-writes l (stateOf l) p (settle fits e v) (numberOf r) a n
       ∙ ap (stays (numberOf r)) (sym (q ∙ ap (λ (y : Row). areaOf (withRow (stateOf l) p y)) x)))
 
 -- ---- the needs

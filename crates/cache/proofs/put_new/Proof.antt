@@ -19,12 +19,13 @@ use Rattle.table.specs.Table.{rowsIn, Sound, foundFor}
 use Rattle.table.specs.declared.Found.the-variants.{Vacant}
 use Rattle.calls.specs.declared.Answer.{Answer}
 use Rattle.calls.specs.declared.Answer.the-variants.{Recorded}
-use Rattle.calls.specs.Calls.{Out, stays, eventIn}
+use Rattle.calls.specs.Calls.{Out, stays}
 use Rattle.calls.specs.Answers.{numberOf, Gives}
 use Rattle.cache.specs.Fresh.{Fresh}
 use Rattle.roles.proofs.Tests.{T-true, T-false}
 use Rattle.cache.proofs.Places.{bytes-are}
 use Rattle.calls.proofs.CallLaws.{fitsIn-blank, fitsIn-room, fitsIn-none, event-unfit, event-recorded}
+use Rattle.cache.specs.Here.{eventHere}
 use Rattle.cache.proofs.Ladder.{gives}
 use Rattle.cache.proofs.Writes.{place-inside, row-none, event-none, state-new, area-kept, fitting-tidy}
 use Rattle.cache.proofs.put_new.Statement.{statement}
@@ -45,28 +46,28 @@ module _ (l : List ℕ) (s : Sound l) (p i : ℕ) (e : Happening) (w : value.Row
   empty : isBlank (rowFor p (rowsIn l)) ≡ true
   empty = ap isBlank (row-none l s p i f)
 
-  nothing : Bytes l → isBlank (rowOf w) ≡ true → Gives (eventIn l p e) Recorded l
+  nothing : Bytes l → isBlank (rowOf w) ≡ true → Gives (eventHere l p e) Recorded l
   nothing bytes b =
       let q = sym (ap isBlank same) ∙ b in
-      gives (eventIn l p e) Recorded l
+      gives (eventHere l p e) Recorded l
       (event-none l s p i f e ∙ event-recorded l (stateOf l) p e blank clear (fitsIn-blank (stateOf l) p (step e blank) room q) ∙ ap (stays 0) (area-kept l s p i f (step e blank) q bytes))
 
   either : (b : Bool) → cond b (stays 7 l) (stays 8 l) ≡ stays (cond b 7 8) l
   either true = refl
   either false = refl
 
-  no-more : Bytes l → isBlank (rowOf w) ≡ false → mostRows ≤ length (rowsIn l) → (r : Answer) → numberOf r ≡ cond (isReply e) 7 8 → Gives (eventIn l p e) r l
+  no-more : Bytes l → isBlank (rowOf w) ≡ false → mostRows ≤ length (rowsIn l) → (r : Answer) → numberOf r ≡ cond (isReply e) 7 8 → Gives (eventHere l p e) r l
   no-more bytes b m r q =
-      gives (eventIn l p e) r l
+      gives (eventHere l p e) r l
       (event-none l s p i f e
       ∙ event-unfit l (stateOf l) p e blank clear (fitsIn-none (stateOf l) p (step e blank) room empty (sym (ap isBlank same) ∙ b) m)
       ∙ ap (λ (o : Out). cond (isReply e) (stays 7 l) o) (ap (stays 8) (area-kept l s p i f blank refl bytes))
       ∙ either (isReply e)
       ∙ ap (λ (a : ℕ). stays a l) (sym q))
 
-  made : (m : List ℕ) → length (rowsIn l) < mostRows → m ≡ areaOf (withRow (stateOf l) p (rowOf w)) → Gives (eventIn l p e) Recorded m
+  made : (m : List ℕ) → length (rowsIn l) < mostRows → m ≡ areaOf (withRow (stateOf l) p (rowOf w)) → Gives (eventHere l p e) Recorded m
   made m u q =
-      gives (eventIn l p e) Recorded m
+      gives (eventHere l p e) Recorded m
       (event-none l s p i f e
       ∙ event-recorded l (stateOf l) p e blank clear (fitsIn-room (stateOf l) p (step e blank) room u)
       ∙ ap (stays 0) (sym (q ∙ ap (λ (x : Row). areaOf (withRow (stateOf l) p x)) same)))
