@@ -43,37 +43,40 @@ module _ (d : List ℕ) (at c : ℕ) (t : List ℕ) (h : at + length ((c ∷ t) 
 
 -- ---- lines as requests have them
 
-pub open-line : (n : ℕ) → lineOf (Open n) ≡ (letterO ∷ spaced n) ++ lf ∷ []
+pub open-line : (n g : ℕ) → lineOf (Open n g) ≡ (letterO ∷ (spaced n ++ spaced g)) ++ lf ∷ []
 unfolding lineOf requestText
-open-line n = refl
+open-line n g = refl
 
-pub none-denied : (p d : ℕ) → d ≡ 0 → linesText (tells p (denials d)) ≡ []
+pub none-denied : (p d g : ℕ) → d ≡ 0 → linesText (tells p (denials d) g) ≡ []
 unfolding linesText
-none-denied p d e = rw (eq-eqb d 0 e) refl
+none-denied p d g e = rw (eq-eqb d 0 e) refl
 
-pub some-denied : (p d : ℕ) → (d ≡ 0 → ⊥) → linesText (tells p (denials d)) ≡ replyLine letterD p d ++ []
+pub some-denied : (p d g : ℕ) → (d ≡ 0 → ⊥) → linesText (tells p (denials d) g) ≡ replyLine letterD p d g ++ []
 unfolding linesText lineOf requestText eventText
-some-denied p d e = rw (ne-eqb d 0 e) refl
+some-denied p d g e = rw (ne-eqb d 0 e) refl
 
-pub opens-next : (p : ℕ) (l : List ℕ) (i : ℕ) → i < length l → linesText (tells p (allows (drop i l))) ≡ replyLine letterA p (getD l i 0) ++ linesText (tells p (allows (drop (i + 1) l)))
+pub opens-next : (p : ℕ) (l : List ℕ) (g i : ℕ) → i < length l
+    → linesText (tells p (allows (drop i l)) g) ≡ replyLine letterA p (getD l i 0) g ++ linesText (tells p (allows (drop (i + 1) l)) g)
 unfolding linesText lineOf requestText eventText
-opens-next p l i h = rw (add-one, drop-cons l i 0 h) refl
+opens-next p l g i h = rw (add-one, drop-cons l i 0 h) refl
 
-pub opens-end : (p : ℕ) (l : List ℕ) (i : ℕ) → length l ≤ i → linesText (tells p (allows (drop i l))) ≡ []
+pub opens-end : (p : ℕ) (l : List ℕ) (g i : ℕ) → length l ≤ i → linesText (tells p (allows (drop i l)) g) ≡ []
 unfolding linesText
-opens-end p l i h = rw (drop-of-length-le l {i = i} h) refl
+opens-end p l g i h = rw (drop-of-length-le l {i = i} h) refl
 
 -- ---- the lines of a row
 
-tells-append : (p : ℕ) (es fs : List Happening) → tells p (es ++ fs) ≡ tells p es ++ tells p fs
-tells-append p [] fs = refl
-tells-append p (e ∷ es) fs = ap (λ (x : List Request). told p e ∷ x) (tells-append p es fs)
+tells-append : (p : ℕ) (es fs : List Happening) (g : ℕ) → tells p (es ++ fs) g ≡ tells p es g ++ tells p fs g
+tells-append p [] fs g = refl
+tells-append p (e ∷ es) fs g = ap (λ (x : List Request). told p e g ∷ x) (tells-append p es fs g)
 
 pub lines-append : (qs rs : List Request) → linesText (qs ++ rs) ≡ linesText qs ++ linesText rs
 unfolding linesText
 lines-append [] rs = refl
 lines-append (q ∷ qs) rs = ap (λ (x : List ℕ). lineOf q ++ x) (lines-append qs rs) ∙ sym (append-assoc (lineOf q) (linesText qs) (linesText rs))
 
-pub row-lines : (p : ℕ) (w : Row) → rowLines (entry p w) ≡ linesText (tells p (denials (w .denied))) ++ linesText (tells p (allows (w .opens)))
+pub row-lines : (g p : ℕ) (w : Row) → rowLines g (entry p w) ≡ linesText (tells p (denials (w .denied)) g) ++ linesText (tells p (allows (w .opens)) g)
 unfolding rowLines
-row-lines p w = ap linesText (tells-append p (denials (w .denied)) (allows (w .opens))) ∙ lines-append (tells p (denials (w .denied))) (tells p (allows (w .opens)))
+row-lines g p w =
+    ap linesText (tells-append p (denials (w .denied)) (allows (w .opens)) g)
+    ∙ lines-append (tells p (denials (w .denied)) g) (tells p (allows (w .opens)) g)

@@ -13,7 +13,7 @@ use lib.ListN.{length, length-append}
 use lib.Pow.{pow-mono}
 use Rattle.roles.specs.Sets.{mostRoles, Below}
 use Rattle.meaning.specs.declared.Happening.the-variants.{Deny}
-use Rattle.meaning.specs.Events.{lastPermission}
+use Rattle.meaning.specs.Events.{lastPermission, lastPolicyState}
 use Rattle.meaning.specs.Lists.{Mem}
 use Rattle.meaning.specs.Rows.{Row, Good}
 use Rattle.area.specs.Layout.{goodBytes}
@@ -62,7 +62,7 @@ module _ (l : List ℕ) (i : ℕ) (d : List ℕ) where
   unfolding printRowOf
   row-short g h k = rw (g, lt-leb (length (rowsIn l)) i h, lt-ltb (length d) leastRoom k)
 
-  pub row-writes : goodBytes l ≡ true → i < length (rowsIn l) → leastRoom ≤ length d → printRowOf l i d ≡ shown (rowLines (nth i (rowsIn l))) d
+  pub row-writes : goodBytes l ≡ true → i < length (rowsIn l) → leastRoom ≤ length d → printRowOf l i d ≡ shown (rowLines (stateOf l .policy) (nth i (rowsIn l))) d
   unfolding printRowOf
   row-writes g h k = rw (g, lt-leb (length (rowsIn l)) i h, le-ltb (length d) leastRoom k)
 
@@ -72,26 +72,26 @@ abbrev pub AllInRange : List Request → Type 0
 AllInRange [] = Unit {0}
 AllInRange (q ∷ qs) = InRange q × AllInRange qs
 
-pub open-in-range : (s : State) → s .roles ≤ mostRoles → InRange (Open (s .roles))
-open-in-range s h = omega arith
+pub open-in-range : (s : State) → s .roles ≤ mostRoles → s .policy ≤ lastPolicyState → InRange (Open (s .roles) (s .policy))
+open-in-range s h k = (omega arith, k)
 
-module _ (n : ℕ) (few : n ≤ mostRoles) (p : ℕ) (v : p ≤ lastPermission) where
+module _ (n : ℕ) (few : n ≤ mostRoles) (p : ℕ) (v : p ≤ lastPermission) (g : ℕ) (k : g ≤ lastPolicyState) where
   narrow : (s : ℕ) → Below n s → Below mostRoles s
   narrow s h = lt-of-lt-of-le h (pow-mono few)
 
-  allows-in-range : (l : List ℕ) → ((o : ℕ) → Mem o l → Below n o) → AllInRange (tells p (allows l))
+  allows-in-range : (l : List ℕ) → ((o : ℕ) → Mem o l → Below n o) → AllInRange (tells p (allows l) g)
   allows-in-range [] h = tt
-  allows-in-range (o ∷ l) h = ((v, narrow o (h o (inl refl))), allows-in-range l (λ x m. h x (inr m)))
+  allows-in-range (o ∷ l) h = ((v, narrow o (h o (inl refl)), k), allows-in-range l (λ x m. h x (inr m)))
 
-  replies-in-range : (w : Row) → Good n w → AllInRange (tells p (repliesOf w))
-  replies-in-range w g = go (eqb (w .denied) 0)
+  replies-in-range : (w : Row) → Good n w → AllInRange (tells p (repliesOf w) g)
+  replies-in-range w a = go (eqb (w .denied) 0)
     where
-      go : (b : Bool) → AllInRange (tells p (cond b [] (Deny (record { bits = w .denied }) ∷ []) ++ allows (w .opens)))
-      go true = allows-in-range (w .opens) (g .below)
-      go false = ((v, narrow (w .denied) (g .denied-below)), allows-in-range (w .opens) (g .below))
+      go : (b : Bool) → AllInRange (tells p (cond b [] (Deny (record { bits = w .denied }) ∷ []) ++ allows (w .opens)) g)
+      go true = allows-in-range (w .opens) (a .below)
+      go false = ((v, narrow (w .denied) (a .denied-below), k), allows-in-range (w .opens) (a .below))
 
-pub row-in-range : (n last : ℕ) → n ≤ mostRoles → (e : Entry) → GoodEntry n last e → AllInRange (rowRequests e)
-row-in-range n last few e g = replies-in-range n few (e .permission) (g .valid) (e .row) (g .good-row .good)
+pub row-in-range : (n last : ℕ) → n ≤ mostRoles → (g : ℕ) → g ≤ lastPolicyState → (e : Entry) → GoodEntry n last e → AllInRange (rowRequests g e)
+row-in-range n last few g k e a = replies-in-range n few (e .permission) (a .valid) g k (e .row) (a .good-row .good)
 
 -- ---- lengths
 
@@ -99,8 +99,8 @@ line-length : (q : Request) → InRange q → length (lineOf q) ≤ 1 + mostByte
 unfolding lineOf
 line-length q h = omega (arith, length-append (requestText q) (lf ∷ []), request-length q h)
 
-pub open-length : (s : State) → s .roles ≤ mostRoles → length (openLine s) ≤ leastRoom
-open-length s h = omega (arith, line-length (Open (s .roles)) (open-in-range s h))
+open-length : (s : State) → s .roles ≤ mostRoles → s .policy ≤ lastPolicyState → length (openLine s) ≤ leastRoom
+open-length s h k = omega (arith, line-length (Open (s .roles) (s .policy)) (open-in-range s h k))
 
 lines-length : (qs : List Request) → AllInRange qs → length (linesText qs) ≤ (1 + mostBytes) * length qs
 unfolding linesText
@@ -108,22 +108,22 @@ lines-length [] h = omega arith
 lines-length (q ∷ qs) h = omega (arith, length-append (lineOf q) (linesText qs), line-length q (h .0), lines-length qs (h .1))
 
 -- a line for what is denied, and one for each open set
-replies-few : (p : ℕ) (w : Row) → length (tells p (repliesOf w)) ≤ 1 + length (w .opens)
-replies-few p w = go (eqb (w .denied) 0)
+replies-few : (p : ℕ) (w : Row) (g : ℕ) → length (tells p (repliesOf w) g) ≤ 1 + length (w .opens)
+replies-few p w g = go (eqb (w .denied) 0)
   where
-    opens : (l : List ℕ) → length (tells p (allows l)) ≡ length l
+    opens : (l : List ℕ) → length (tells p (allows l) g) ≡ length l
     opens [] = refl
     opens (o ∷ l) = ap suc (opens l)
 
-    go : (b : Bool) → length (tells p (cond b [] (Deny (record { bits = w .denied }) ∷ []) ++ allows (w .opens))) ≤ 1 + length (w .opens)
+    go : (b : Bool) → length (tells p (cond b [] (Deny (record { bits = w .denied }) ∷ []) ++ allows (w .opens)) g) ≤ 1 + length (w .opens)
     go true = omega (arith, opens (w .opens))
     go false = omega (arith, opens (w .opens))
 
-pub row-length : (n last : ℕ) → n ≤ mostRoles → (e : Entry) → GoodEntry n last e → length (rowLines e) ≤ leastRoom
+row-length : (n last : ℕ) → n ≤ mostRoles → (g : ℕ) → g ≤ lastPolicyState → (e : Entry) → GoodEntry n last e → length (rowLines g e) ≤ leastRoom
 unfolding rowLines
-row-length n last few e g =
-    let k = g .good-row .few in
-    omega (arith, lines-length (rowRequests e) (row-in-range n last few e g), replies-few (e .permission) (e .row))
+row-length n last few g k e a =
+    let m = a .good-row .few in
+    omega (arith, lines-length (rowRequests g e) (row-in-range n last few g k e a), replies-few (e .permission) (e .row) g)
 
 pub by-area : (l : List ℕ) {P : Type 0} → (goodBytes l ≡ false → P) → (goodBytes l ≡ true → P) → P
 by-area l {P} f g = go (goodBytes l) refl
@@ -138,10 +138,12 @@ module _ (l : List ℕ) (g : goodBytes l ≡ true) where
   is-good = subst⁻¹ T g tt
 
   pub open-fits : length (openLine (stateOf l)) ≤ leastRoom
-  open-fits = open-length (stateOf l) (good-state l is-good .most-roles)
+  open-fits = let s = good-state l is-good in open-length (stateOf l) (s .most-roles) (s .policy-small)
 
-  pub row-fits : (i : ℕ) → i < length (rowsIn l) → length (rowLines (nth i (rowsIn l))) ≤ leastRoom
-  row-fits i h = row-length (stateOf l .roles) 0 (good-state l is-good .most-roles) (nth i (rowsIn l)) (row-good (stateOf l .roles) 0 (rowsIn l) (good-state l is-good .good-rows) i h)
+  pub row-fits : (i : ℕ) → i < length (rowsIn l) → length (rowLines (stateOf l .policy) (nth i (rowsIn l))) ≤ leastRoom
+  row-fits i h =
+      let s = good-state l is-good in
+      row-length (stateOf l .roles) 0 (s .most-roles) (stateOf l .policy) (s .policy-small) (nth i (rowsIn l)) (row-good (stateOf l .roles) 0 (rowsIn l) (s .good-rows) i h)
 
 -- ---- the row that a walker hands out
 

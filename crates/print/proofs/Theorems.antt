@@ -78,7 +78,7 @@ row-within l i d = by-area l
     (λ g. by-cases (decLt i (length (rowsIn l)))
     (λ u. by-cases (decLt (length d) leastRoom)
     (λ h. rw (row-short l i d g u h) (kept-within 16 d))
-    (λ h. let k : leastRoom ≤ length d = omega arith in rw (row-writes l i d g u k) (shown-within (rowLines (nth i (rowsIn l))) d (row-fits l g i u) k)))
+    (λ h. let k : leastRoom ≤ length d = omega arith in rw (row-writes l i d g u k) (shown-within (rowLines (stateOf l .policy) (nth i (rowsIn l))) d (row-fits l g i u) k)))
     (λ u. let k : length (rowsIn l) ≤ i = omega arith in rw (row-none l i d g k) (kept-within 18 d)))
 
 open-answers : (l d : List ℕ) → OnGrounds d (printOpenOf l d) (ground 1 (¬ (T (goodBytes l))) ∷ ground 16 (length d < 4096) ∷ [])
@@ -89,7 +89,7 @@ row-answers : (l : List ℕ) (i : ℕ) (d : List ℕ)
     → OnGrounds d (printRowOf l i d) (ground 1 (¬ (T (goodBytes l))) ∷ ground 18 (length (stateOf l .rows) ≤ i) ∷ ground 16 (length d < 4096) ∷ [])
 unfolding printRowOf
 row-answers l i d =
-    on-grounds d (shown (rowLines (nth i (rowsIn l))) d) (rowRefusals l i d) _ refl (refl, bad-area l, (refl, no-row l i, (refl, short-buffer d, tt))) tt tt (row-within l i d)
+    on-grounds d (shown (rowLines (stateOf l .policy) (nth i (rowsIn l))) d) (rowRefusals l i d) _ refl (refl, bad-area l, (refl, no-row l i, (refl, short-buffer d, tt))) tt tt (row-within l i d)
 
 -- ---- one call behind the other
 
@@ -97,16 +97,16 @@ module _ (l : List ℕ) (g : goodBytes l ≡ true) where
   open-text : (d : List ℕ) → 4096 ≤ length d → text (printOpenOf l d) ≡ openLine (stateOf l)
   open-text d k = ap text (open-writes l d g k) ∙ shown-text (openLine (stateOf l)) d (let f = open-fits l g in omega arith)
 
-  row-text : (i : ℕ) (d : List ℕ) → i < length (rowsIn l) → 4096 ≤ length d → text (printRowOf l i d) ≡ rowLines (nth i (rowsIn l))
-  row-text i d h k = ap text (row-writes l i d g h k) ∙ shown-text (rowLines (nth i (rowsIn l))) d (let f = row-fits l g i h in omega arith)
+  row-text : (i : ℕ) (d : List ℕ) → i < length (rowsIn l) → 4096 ≤ length d → text (printRowOf l i d) ≡ rowLines (stateOf l .policy) (nth i (rowsIn l))
+  row-text i d h k = ap text (row-writes l i d g h k) ∙ shown-text (rowLines (stateOf l .policy) (nth i (rowsIn l))) d (let f = row-fits l g i h in omega arith)
 
-  rows-text : (d : ℕ → List ℕ) → ((i : ℕ) → 4096 ≤ length (d i)) → (n i : ℕ) → i + n ≡ length (rowsIn l) → rowsFrom l d i n ≡ each rowLines (drop i (rowsIn l))
+  rows-text : (d : ℕ → List ℕ) → ((i : ℕ) → 4096 ≤ length (d i)) → (n i : ℕ) → i + n ≡ length (rowsIn l) → rowsFrom l d i n ≡ each (rowLines (stateOf l .policy)) (drop i (rowsIn l))
   unfolding rowsFrom each
   rows-text d k zero i e = rw (drop-of-length-le (rowsIn l) {i = i} (omega arith)) refl
   rows-text d k (suc n) i e =
       let h : i < length (rowsIn l) = omega arith in
       rw (drop-cons (rowsIn l) i none h)
-      (ap (λ (t : List ℕ). t ++ rowsFrom l d (suc i) n) (row-text i (d i) h (k i)) ∙ ap (λ (t : List ℕ). rowLines (nth i (rowsIn l)) ++ t) (rows-text d k n (suc i) (omega arith)))
+      (ap (λ (t : List ℕ). t ++ rowsFrom l d (suc i) n) (row-text i (d i) h (k i)) ∙ ap (λ (t : List ℕ). rowLines (stateOf l .policy) (nth i (rowsIn l)) ++ t) (rows-text d k n (suc i) (omega arith)))
 
   whole-text : (o : List ℕ) → 4096 ≤ length o → (d : ℕ → List ℕ) → ((i : ℕ) → 4096 ≤ length (d i)) → text (printOpenOf l o) ++ rowsFrom l d 0 (length (rowsIn l)) ≡ printed (stateOf l)
   unfolding printed

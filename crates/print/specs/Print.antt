@@ -5,7 +5,7 @@
 --     shown t d            the text t, from the first byte of the buffer on; the bytes behind it stay
 --     openRefusals, rowRefusals    the refusals, in the order 1, 18, 16
 --     printOpenOf l d      the O line of the area l, into the buffer d
---     printRowOf l i d     the lines of the row of number i
+--     printRowOf l i d     the lines of the row of number i, in the area's policy state
 --     Prints o r e         the result r and the buffer e are those of o
 use mathlib.Core.Path.{_≡_}
 use mathlib.Core.Bool.{not}
@@ -45,7 +45,7 @@ unfoldable pub printOpenOf : List ℕ → List ℕ → Print
 printOpenOf l d = refuse (openRefusals l d) (λ a. kept a d) (shown (openLine (stateOf l)) d)
 
 unfoldable pub printRowOf : List ℕ → ℕ → List ℕ → Print
-printRowOf l i d = refuse (rowRefusals l i d) (λ a. kept a d) (shown (rowLines (nth i (rowsIn l))) d)
+printRowOf l i d = refuse (rowRefusals l i d) (λ a. kept a d) (shown (rowLines (stateOf l .policy) (nth i (rowsIn l))) d)
 
 pub record Prints (o : Print) (r : Written) (e : List ℕ) : Type 0 where
   pub answer : r .answer ≡ o .answer

@@ -3,6 +3,7 @@
 mod write;
 
 use area::check::check;
+use table::policy_state;
 use table::role_count;
 use walker::row_of;
 use write::write_open;
@@ -53,10 +54,10 @@ pub fn print_open(area: &[u8], out: &mut [u8]) -> Written
     if out.len() < LEAST_ROOM {
         return refused(SHORT_BUFFER);
     }
-    wrote(write_open(out, role_count(area)))
+    wrote(write_open(out, role_count(area), policy_state(area)))
 }
 
-// The lines of the row of a number.
+// The lines of the row of a number, each with the area's policy state.
 pub fn print_row(area: &[u8], row: u64, out: &mut [u8]) -> Written
     ensures { λ r. ⌜ Prints (printRowOf (now (area .entry)) row (now (out .entry))) r (now (out .exit)) ⌝ }
 {
@@ -70,5 +71,5 @@ pub fn print_row(area: &[u8], row: u64, out: &mut [u8]) -> Written
     if out.len() < LEAST_ROOM {
         return refused(SHORT_BUFFER);
     }
-    wrote(write_row(out, handed.permission, handed.row))
+    wrote(write_row(out, handed.permission, handed.row, policy_state(area)))
 }

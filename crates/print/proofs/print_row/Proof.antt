@@ -3,7 +3,8 @@ use borrow.Author.Needs.{needs}
 use borrow.Author.Tests.{not-true, not-false}
 use mathlib.Core.Path.{_≡_, refl, sym, ap, _∙_, subst⁻¹}
 use mathlib.Core.Bool.{true}
-use Prim.Native.Nat.{_≤_, _<_}
+use mathlib.Core.List.{List}
+use Prim.Native.Nat.{ℕ, _≤_, _<_}
 use native.Mathlib.Omega.{arith}
 use lib.Dec.{T}
 use lib.ListN.{length}
@@ -20,7 +21,7 @@ use Rattle.walker.specs.Walk.{given}
 use Rattle.walker.specs.declared.Handed.{Handed}
 use Rattle.print.specs.Print.{leastRoom}
 use Rattle.print.specs.Printed.{rowLines}
-use Rattle.print.proofs.PrintLaws.{row-bad, row-none, row-short, row-writes, row-length, some-handed, none-handed, prints-kept, prints-shown}
+use Rattle.print.proofs.PrintLaws.{row-bad, row-none, row-short, row-writes, row-fits, some-handed, none-handed, prints-kept, prints-shown}
 use Rattle.print.proofs.print_row.Statement.{statement}
 use Rattle.print.proofs.print_row.Tie as tie
 
@@ -74,34 +75,48 @@ module _ (t : tie.Else2) where
   tidy : Tidy mostOpens (handed-out .row .opens)
   tidy = stored⇒tidy mostOpens _ (e .row .opens) (ap (λ (h : Handed). h .row .opens) (there .1)) (good-entry .good-row .few)
 
-  short : length (rowLines (entry (handed-out .permission) (rowOf (handed-out .row)))) ≤ leastRoom
-  short =
-      rw same
-      (row-length (stateOf (start .args .area .now) .roles) 0 (good-state (start .args .area .now) (is-good (t .before .before .before)) .most-roles) e good-entry)
-
 returns-3 : tie.Need-returns-3
 returns-3 c =
     let t = c .before .before in
     let s = start t in
     prints-kept 16 (row-short (s .args .area .now) (s .args .row) (s .args .out .now) (good (t .before .before .before)) (there t .0) (c .before .if3 .taken)) (c .refused3 .ensures)
 
+policy-state-requires : tie.Need-policy-state-requires
+policy-state-requires c κs = let t = c .before .before in sound (start t .args .area .now) (is-good (t .before .before .before))
+
+-- at the call of `write_row`
+module _ (c : tie.After-policy-state) where
+  abbrev there-is : tie.Else2
+  there-is = c .before .before .before
+
+  abbrev lines : List ℕ
+  lines = rowLines (c .policy-state .result) (entry (handed-out there-is .permission) (rowOf (handed-out there-is .row)))
+
+  same-lines : lines ≡ rowLines (stateOf (start there-is .args .area .now) .policy) (e there-is)
+  same-lines = λ i. rowLines (c .policy-state .ensures i) (same there-is i)
+
+  short : length lines ≤ leastRoom
+  short =
+      let s = start there-is in
+      omega (arith, ap length same-lines, row-fits (s .args .area .now) (good (there-is .before .before .before)) (s .args .row) (there there-is .0))
+
 write-row-requires : tie.Need-write-row-requires
-write-row-requires c κs = let t = c .before .before in (tidy t, omega (arith, short t, c .before .if3 .left))
+write-row-requires c κs = (tidy (there-is c), omega (arith, short c, c .before .before .if3 .left))
 
 wrote-requires : tie.Need-wrote-requires
-wrote-requires c κs = let w = c .before .before in omega (arith, short (w .before .before .before), w .write-row .ensures .next)
+wrote-requires c κs = let w = c .before .before in omega (arith, short (w .before), w .write-row .ensures .next)
 
 returns-4 : tie.Need-returns-4
 returns-4 c =
     let w = c .before .before .before in
-    let f = w .before .before in
+    let f = w .before .before .before in
     let t = f .before in
     let s = start t in
-    prints-shown (rowLines (e t)) (row-writes (s .args .area .now) (s .args .row) (s .args .out .now) (good (t .before .before .before)) (there t .0) (omega (arith, f .if3 .left)))
-    (rw (← same t) (w .write-row .ensures)) (c .wrote .ensures)
+    prints-shown (rowLines (stateOf (s .args .area .now) .policy) (e t)) (row-writes (s .args .area .now) (s .args .row) (s .args .out .now) (good (t .before .before .before)) (there t .0) (omega (arith, f .if3 .left)))
+    (rw (← same-lines (w .before)) (w .write-row .ensures)) (c .wrote .ensures)
 
 pub print-row-spec : {M : Type 1} → statement M
 print-row-spec =
     tie.close
-    (tie.spec (λ c κs. search needs) (λ c κs. search needs) returns row-of-requires (λ c κs. search needs) returns-2 (λ c κs. search needs) returns-3 write-row-requires wrote-requires
+    (tie.spec (λ c κs. search needs) (λ c κs. search needs) returns row-of-requires (λ c κs. search needs) returns-2 (λ c κs. search needs) returns-3 policy-state-requires write-row-requires wrote-requires
     (λ c. search needs) returns-4)

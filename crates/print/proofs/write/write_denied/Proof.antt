@@ -13,21 +13,21 @@ use Rattle.print.proofs.LineLaws.{none-denied, some-denied}
 use Rattle.print.proofs.write.write_denied.Statement.{statement}
 use Rattle.print.proofs.write.write_denied.Tie as tie
 
-one-line : (p d : ℕ) → (d ≡ 0 → ⊥) → linesText (tells p (denials d)) ≡ replyLine letterD p d
-one-line p d e = some-denied p d e ∙ append-nil (replyLine letterD p d)
+one-line : (p d g : ℕ) → (d ≡ 0 → ⊥) → linesText (tells p (denials d) g) ≡ replyLine letterD p d g
+one-line p d g e = some-denied p d g e ∙ append-nil (replyLine letterD p d g)
 
 returns : tie.Need-returns
-returns c = let s = c .before .before .before in rw (none-denied (s .args .p) (s .args .d .bits) (c .if1 .taken)) (wrote-nothing (s .args .out .now) 0)
+returns c = let s = c .before .before .before in rw (none-denied (s .args .p) (s .args .d .bits) (s .args .g) (c .if1 .taken)) (wrote-nothing (s .args .out .now) 0)
 
 write-reply-requires : tie.Need-write-reply-requires
 write-reply-requires c κs =
     let s = c .before .before .before .before in
-    omega (arith, s .pre, ap length (one-line (s .args .p) (s .args .d .bits) (c .before .if1 .left)))
+    omega (arith, s .pre, ap length (one-line (s .args .p) (s .args .d .bits) (s .args .g) (c .before .if1 .left)))
 
 returns-2 : tie.Need-returns-2
 returns-2 c =
     let s = c .before .before .before .before .before .before .before in
-    rw (one-line (s .args .p) (s .args .d .bits) (c .before .before .before .before .if1 .left)) (c .before .before .write-reply .ensures)
+    rw (one-line (s .args .p) (s .args .d .bits) (s .args .g) (c .before .before .before .before .if1 .left)) (c .before .before .write-reply .ensures)
 
 pub write-denied-spec : {M : Type 1} → statement M
 write-denied-spec = tie.close (tie.spec returns write-reply-requires (λ c. search needs) returns-2)

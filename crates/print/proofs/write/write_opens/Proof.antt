@@ -12,34 +12,34 @@ use Rattle.print.proofs.write.write_opens.Statement.{statement}
 use Rattle.print.proofs.write.write_opens.Tie as tie
 
 abbrev Inv-loop : tie.InvT-loop
-Inv-loop out₀ at p sets place₀ i₀ out place i =
-    (i ≤ length sets) × (at + length (linesText (tells p (allows sets))) ≤ length out₀)
-    × Left out₀ at (linesText (tells p (allows sets))) out place (linesText (tells p (allows (drop i sets))))
+Inv-loop out₀ at p sets g place₀ i₀ out place i =
+    (i ≤ length sets) × (at + length (linesText (tells p (allows sets) g)) ≤ length out₀)
+    × Left out₀ at (linesText (tells p (allows sets) g)) out place (linesText (tells p (allows (drop i sets)) g))
 
 abbrev μ-loop : tie.MeasureT-loop
-μ-loop out₀ at p sets place₀ i₀ out place i = length sets - i
+μ-loop out₀ at p sets g place₀ i₀ out place i = length sets - i
 
 loop-holds : tie.Need-loop-holds Inv-loop μ-loop
-loop-holds c = let a = c .before .before .args in (search needs, c .before .before .pre, left-start (a .out .now) (a .at) (linesText (tells (a .p) (allows (a .sets .now)))))
+loop-holds c = let a = c .before .before .args in (search needs, c .before .before .pre, left-start (a .out .now) (a .at) (linesText (tells (a .p) (allows (a .sets .now)) (a .g))))
 
 write-reply-requires : tie.Need-write-reply-requires Inv-loop μ-loop
 write-reply-requires c κs =
     let l = c .before .before .before .loop in
     let a = c .before .before .before .before .before .before .args in
     let sets = a .sets .now in
-    left-room (replyLine letterA (a .p) (getD sets (l .i) 0)) (linesText (tells (a .p) (allows (drop (l .i + 1) sets)))) (l .inv .2) (opens-next (a .p) sets (l .i) (omega arith)) (l .inv .1)
+    left-room (replyLine letterA (a .p) (getD sets (l .i) 0) (a .g)) (linesText (tells (a .p) (allows (drop (l .i + 1) sets)) (a .g))) (l .inv .2) (opens-next (a .p) sets (a .g) (l .i) (omega arith)) (l .inv .1)
 
 loop-again : tie.Need-loop-again Inv-loop μ-loop
 loop-again c =
     let l = c .before .before .before .before .before .before .loop in
     let a = c .before .before .before .before .before .before .before .before .before .args in
-    (omega arith, l .inv .1, left-next (l .inv .2) (opens-next (a .p) (a .sets .now) (l .i) (omega arith)) (c .before .before .write-reply .ensures))
+    (omega arith, l .inv .1, left-next (l .inv .2) (opens-next (a .p) (a .sets .now) (a .g) (l .i) (omega arith)) (c .before .before .write-reply .ensures))
 
 returns : tie.Need-returns Inv-loop μ-loop
 returns c =
     let l = c .before .loop in
     let a = c .before .before .before .before .args in
-    left-end (rw (opens-end (a .p) (a .sets .now) (l .i) (omega arith)) at (l .inv .2))
+    left-end (rw (opens-end (a .p) (a .sets .now) (a .g) (l .i) (omega arith)) at (l .inv .2))
 
 pub write-opens-spec : {M : Type 1} → statement M
 write-opens-spec =

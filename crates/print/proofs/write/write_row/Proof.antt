@@ -17,13 +17,13 @@ use Rattle.print.proofs.write.write_row.Tie as tie
 
 module _ (s : tie.Start) where
   abbrev denied-lines : List ℕ
-  denied-lines = linesText (tells (s .args .p) (denials (s .args .w .denied .bits)))
+  denied-lines = linesText (tells (s .args .p) (denials (s .args .w .denied .bits)) (s .args .g))
 
   abbrev open-lines : List ℕ
-  open-lines = linesText (tells (s .args .p) (allows (held (s .args .w .opens))))
+  open-lines = linesText (tells (s .args .p) (allows (held (s .args .w .opens))) (s .args .g))
 
   room : 0 + length (denied-lines ++ open-lines) ≤ length (s .args .out .now)
-  room = omega (arith, s .pre .1, ap length (row-lines (s .args .p) (rowOf (s .args .w))))
+  room = omega (arith, s .pre .1, ap length (row-lines (s .args .g) (s .args .p) (rowOf (s .args .w))))
 
   few : s .args .w .opens .count ≤ length (s .args .w .opens .sets)
   few = tidy-few mostOpens (s .args .w .opens) (s .pre .0) (omega arith)
@@ -49,7 +49,7 @@ returns c =
     let w = c .before .before in
     let d = w .before .before .before .before .before in
     let s = d .before .before .before .before .before .before in
-    rw (row-lines (s .args .p) (rowOf (s .args .w))) (wrote-then (d .write-denied .ensures) (w .write-opens .ensures))
+    rw (row-lines (s .args .g) (s .args .p) (rowOf (s .args .w))) (wrote-then (d .write-denied .ensures) (w .write-opens .ensures))
 
 pub write-row-spec : {M : Type 1} → statement M
 write-row-spec =
