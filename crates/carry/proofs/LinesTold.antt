@@ -11,6 +11,7 @@ use lib.ListN.{length}
 use Rattle.roles.specs.Sets.{mostRoles}
 use Rattle.meaning.specs.declared.Event.{Event}
 use Rattle.meaning.specs.declared.Happening.{Happening}
+use Rattle.meaning.specs.Events.{lastPolicyState}
 use Rattle.meaning.specs.Rows.{bare}
 use Rattle.area.specs.Layout.{areaBytes}
 use Rattle.area.specs.State.{Entry, State, opened, GoodRows, GoodState, each, areaOf}
@@ -20,7 +21,7 @@ use Rattle.calls.proofs.CallLaws.{open-recorded}
 use Rattle.text.specs.Ascii.{lf}
 use Rattle.requests.specs.declared.Request.{Request}
 use Rattle.requests.specs.declared.Request.the-variants.{Open, Told}
-use Rattle.requests.specs.Request.{requestText}
+use Rattle.requests.specs.Request.{requestText, told}
 use Rattle.requests.proofs.Theorems.{request-back, request-length, request-nolf}
 use Rattle.split.specs.Split.{Held, short, none, isNone, said, linesFrom, linesOf}
 use Rattle.split.proofs.SplitLaws.{all-fits, lines-whole}
@@ -35,33 +36,33 @@ use Rattle.carry.proofs.AreaTold.{eventsFor, events, Tells, tell-all}
 
 -- ---- the requests of the lines
 
-abbrev rowsRequests : List Entry → List Request
-rowsRequests [] = []
-rowsRequests (e ∷ es) = rowRequests e ++ rowsRequests es
+abbrev rowsRequests : ℕ → List Entry → List Request
+rowsRequests g [] = []
+rowsRequests g (e ∷ es) = rowRequests g e ++ rowsRequests g es
 
 abbrev pub requestsOf : State → List Request
-requestsOf s = Open (s .roles) ∷ rowsRequests (s .rows)
+requestsOf s = Open (s .roles) (s .policy) ∷ rowsRequests (s .policy) (s .rows)
 
-rows-lines : (es : List Entry) → each rowLines es ≡ linesText (rowsRequests es)
+rows-lines : (g : ℕ) (es : List Entry) → each (rowLines g) es ≡ linesText (rowsRequests g es)
 unfolding each linesText rowLines
-rows-lines [] = refl
-rows-lines (e ∷ es) = ap (λ (t : List ℕ). linesText (rowRequests e) ++ t) (rows-lines es) ∙ sym (lines-append (rowRequests e) (rowsRequests es))
+rows-lines g [] = refl
+rows-lines g (e ∷ es) = ap (λ (t : List ℕ). linesText (rowRequests g e) ++ t) (rows-lines g es) ∙ sym (lines-append (rowRequests g e) (rowsRequests g es))
 
 pub printed-lines : (s : State) → printed s ≡ linesText (requestsOf s)
 unfolding printed linesText
-printed-lines s = ap (λ (t : List ℕ). openLine s ++ t) (rows-lines (s .rows))
+printed-lines s = ap (λ (t : List ℕ). openLine s ++ t) (rows-lines (s .policy) (s .rows))
 
 both-in-range : (qs rs : List Request) → AllInRange qs → AllInRange rs → AllInRange (qs ++ rs)
 both-in-range [] rs a b = b
 both-in-range (q ∷ qs) rs a b = (a .0, both-in-range qs rs (a .1) b)
 
-rows-in-range : (n last : ℕ) → n ≤ mostRoles → (es : List Entry) → GoodRows n last es → AllInRange (rowsRequests es)
-rows-in-range n last few [] g = tt
-rows-in-range n last few (e ∷ es) g =
-    both-in-range (rowRequests e) (rowsRequests es) (row-in-range n last few e (record { above = g .0; valid = g .1; good-row = g .2 })) (rows-in-range n (e .permission) few es (g .3))
+rows-in-range : (n last : ℕ) → n ≤ mostRoles → (i : ℕ) → i ≤ lastPolicyState → (es : List Entry) → GoodRows n last es → AllInRange (rowsRequests i es)
+rows-in-range n last few i small [] g = tt
+rows-in-range n last few i small (e ∷ es) g =
+    both-in-range (rowRequests i e) (rowsRequests i es) (row-in-range n last few i small e (record { above = g .0; valid = g .1; good-row = g .2 })) (rows-in-range n (e .permission) few i small es (g .3))
 
 pub all-in-range : (s : State) → GoodState s → AllInRange (requestsOf s)
-all-in-range s g = (open-in-range s (g .most-roles), rows-in-range (s .roles) 0 (g .most-roles) (s .rows) (g .good-rows))
+all-in-range s g = (open-in-range s (g .most-roles) (g .policy-small), rows-in-range (s .roles) 0 (g .most-roles) (s .policy) (g .policy-small) (s .rows) (g .good-rows))
 
 -- ---- the lines of the text are those of the requests
 
@@ -118,17 +119,17 @@ unfolding asked
 asked-append [] fs = refl
 asked-append (e ∷ es) fs = ap (λ (x : List Request). Told e ∷ x) (asked-append es fs)
 
-asked-for : (p : ℕ) (es : List Happening) → asked (eventsFor p es) ≡ tells p es
+asked-for : (p : ℕ) (es : List Happening) (g : ℕ) → asked (eventsFor p es g) ≡ tells p es g
 unfolding asked
-asked-for p [] = refl
-asked-for p (e ∷ es) = ap (λ (x : List Request). Told (record { permission = p; happening = e }) ∷ x) (asked-for p es)
+asked-for p [] g = refl
+asked-for p (e ∷ es) g = ap (λ (x : List Request). told p e g ∷ x) (asked-for p es g)
 
-asked-events : (es : List Entry) → asked (events es) ≡ rowsRequests es
+asked-events : (g : ℕ) (es : List Entry) → asked (events g es) ≡ rowsRequests g es
 unfolding asked
-asked-events [] = refl
-asked-events (e ∷ es) =
-    asked-append (eventsFor (e .permission) (repliesOf (e .row))) (events es)
-    ∙ ap₂ (λ (x : List Request) (y : List Request). x ++ y) (asked-for (e .permission) (repliesOf (e .row))) (asked-events es)
+asked-events g [] = refl
+asked-events g (e ∷ es) =
+    asked-append (eventsFor (e .permission) (repliesOf (e .row)) g) (events g es)
+    ∙ ap₂ (λ (x : List Request) (y : List Request). x ++ y) (asked-for (e .permission) (repliesOf (e .row)) g) (asked-events g es)
 
 zeros-asked : (es : List Event) (l m : List ℕ) → Tells es l m → Zeros l (asked es) m
 unfolding asked answerOf shown
@@ -137,15 +138,15 @@ zeros-asked (e ∷ es) l m t = (ap bare (t .0), refl, zeros-asked es (outOf (cal
 
 -- a good state, told from any area of the right length on
 module _ (s : State) (g : GoodState s) (m : List ℕ) (long : length m ≡ areaBytes) where
-  pub opens : openOf m (s .roles) ≡ writes 0 (opened (s .roles))
-  opens = open-recorded m (s .roles) (eq-eqb (length m) areaBytes long) (rw (le-leb 1 (s .roles) (g .some-roles), le-leb (s .roles) mostRoles (g .most-roles)) refl)
+  pub opens : openOf m (s .roles) (s .policy) ≡ writes 0 (opened (s .roles) (s .policy))
+  opens = open-recorded m (s .roles) (s .policy) (eq-eqb (length m) areaBytes long) (rw (le-leb 1 (s .roles) (g .some-roles), le-leb (s .roles) mostRoles (g .most-roles)) refl)
 
   pub zeros-all : Zeros m (requestsOf s) (areaOf s)
   unfolding answerOf shown
   zeros-all = (
     ap (λ (o : Out). bare (o .answer)) opens,
     refl,
-    subst⁻¹ (λ (o : Out). Zeros (o .area) (rowsRequests (s .rows)) (areaOf s)) opens
-        (subst (λ (qs : List Request). Zeros (areaOf (opened (s .roles))) qs (areaOf s)) (asked-events (s .rows))
-        (zeros-asked (events (s .rows)) (areaOf (opened (s .roles))) (areaOf s) (tell-all s g))),
+    subst⁻¹ (λ (o : Out). Zeros (o .area) (rowsRequests (s .policy) (s .rows)) (areaOf s)) opens
+        (subst (λ (qs : List Request). Zeros (areaOf (opened (s .roles) (s .policy))) qs (areaOf s)) (asked-events (s .policy) (s .rows))
+        (zeros-asked (events (s .policy) (s .rows)) (areaOf (opened (s .roles) (s .policy))) (areaOf s) (tell-all s g))),
   )

@@ -1,11 +1,11 @@
--- A good area printed and fed to another comes out the same; so every good area is reached by some history, and demand 3 speaks of all of them.
+-- A good area printed and fed to another comes out the same; so every good area is reached by some past, and demand 3 speaks of all of them.
 --     zerosFrom k n     the answer 0 to each of n lines, from line k on
 --     Carried l m       all lines that are printed of l are answered 0 from the area m on, and leave l
 --     Carry             so it is for every good area l and any area m of the right length
---     Reached           every good area is reached by some history
+--     Reached           every good area is reached by some past
 --     HeldPossible l p  the holder sets of p that the rows of an area leave possible
---     Known             they are those that the trails of any history leave possible that reaches the area
---     EveryArea         demand 3 of any two good areas: equal exactly when they have the same role count and the same possible holder sets
+--     Known             they are those that are possible after any past that reaches the area
+--     EveryArea         demand 3 of any two good areas: equal exactly when they have the same role count, policy state and possible holder sets
 use mathlib.Core.Path.{_≡_}
 use mathlib.Core.List.{List, [], _++_}
 use mathlib.Core.Logic.{_↔_}
@@ -13,12 +13,11 @@ use Prim.Native.Nat.{ℕ, zero, suc}
 use lib.Dec.{T}
 use lib.ListN.{length}
 use Rattle.words.specs.Words.{Bytes}
-use Rattle.meaning.specs.Events.{Possible}
 use Rattle.meaning.specs.Rows.{Leaves, bare}
 use Rattle.area.specs.Layout.{areaBytes, goodBytes}
 use Rattle.area.specs.State.{rowFor, stateOf}
 use Rattle.calls.specs.Calls.{valid}
-use Rattle.calls.specs.Histories.{History, Begun}
+use Rattle.calls.specs.Histories.{Past, area, PossibleAfter}
 use Rattle.split.specs.Split.{linesOf}
 use Rattle.answers.specs.Texts.{answerText}
 use Rattle.lines.specs.Written.{nextNumber, linesWrite, linesLeave}
@@ -36,14 +35,14 @@ abbrev pub Carry : Type 0
 Carry = (l m : List ℕ) → Bytes l → T (goodBytes l) → length m ≡ areaBytes → Carried l m
 
 abbrev pub Reached : Type 0
-Reached = (l : List ℕ) → Bytes l → T (goodBytes l) → (h : History) × Begun h × (h .area ≡ l)
+Reached = (l : List ℕ) → Bytes l → T (goodBytes l) → (h : Past) × (area h ≡ l)
 
 abbrev pub HeldPossible : List ℕ → ℕ → ℕ → Type 0
 HeldPossible l p = Leaves (stateOf l .roles) (rowFor p (stateOf l .rows))
 
 abbrev pub Known : Type 0
-Known = (h : History) → Begun h → (p x : ℕ) → HeldPossible (h .area) p x ↔ Possible (h .roles) (h .trail p) x
+Known = (h : Past) (p x : ℕ) → HeldPossible (area h) p x ↔ PossibleAfter h p x
 
 abbrev pub EveryArea : Type 0
 EveryArea = (l k : List ℕ) → Bytes l → Bytes k → T (goodBytes l) → T (goodBytes k)
-    → (l ≡ k) ↔ ((stateOf l .roles ≡ stateOf k .roles) × ((p : ℕ) → T (valid p) → (x : ℕ) → HeldPossible l p x ↔ HeldPossible k p x))
+    → (l ≡ k) ↔ ((stateOf l .roles ≡ stateOf k .roles) × (stateOf l .policy ≡ stateOf k .policy) × ((p : ℕ) → T (valid p) → (x : ℕ) → HeldPossible l p x ↔ HeldPossible k p x))

@@ -30,6 +30,10 @@ answer-of s q = s .answer ∙ ap (λ (x : Print). x .answer) q
 bytes-of : {o p : Print} {w : Written} {e : List ℕ} → Prints o w e → o ≡ p → w .bytes ≡ p .bytes
 bytes-of s q = s .bytes ∙ ap (λ (x : Print). x .bytes) q
 
+-- the lines of a row of the area l
+abbrev linesIn : List ℕ → Entry → List ℕ
+linesIn l = rowLines (stateOf l .policy)
+
 module _ (l d : List ℕ) (room : leastRoom ≤ length d) {w : Written} {e : List ℕ} (s : Prints (printOpenOf l d) w e) where
   pub opened : w .answer ≡ 0 → (goodBytes l ≡ true) × (w .bytes ≡ length (openLine (stateOf l))) × (w .bytes ≤ leastRoom)
   opened z = by-area l
@@ -40,7 +44,7 @@ module _ (l d : List ℕ) (room : leastRoom ≤ length d) {w : Written} {e : Lis
   not-opened n = by-area l (λ g. (g, answer-of s (open-bad l d g))) (λ g. absurd (n (answer-of s (open-writes l d g room))))
 
 module _ (l d : List ℕ) (i : ℕ) (g : goodBytes l ≡ true) (room : leastRoom ≤ length d) {w : Written} {e : List ℕ} (s : Prints (printRowOf l i d) w e) where
-  pub row-printed : w .answer ≡ 0 → (i < length (rowsIn l)) × (w .bytes ≡ length (rowLines (nth i (rowsIn l)))) × (w .bytes ≤ leastRoom)
+  pub row-printed : w .answer ≡ 0 → (i < length (rowsIn l)) × (w .bytes ≡ length (linesIn l (nth i (rowsIn l)))) × (w .bytes ≤ leastRoom)
   row-printed z = by-cases (decLt i (length (rowsIn l)))
       (λ h. let b = bytes-of s (row-writes l i d g h room) in let f = row-fits l g i h in (h, b, omega arith))
       (λ h. let k : length (rowsIn l) ≤ i = omega arith in let a = answer-of s (row-none l i d g k) in absurd (omega arith))
@@ -52,7 +56,7 @@ module _ (l d : List ℕ) (i : ℕ) (g : goodBytes l ≡ true) (room : leastRoom
 
 -- the O line and the first i rows
 abbrev pub textTo : List ℕ → ℕ → List ℕ
-textTo l i = openLine (stateOf l) ++ each rowLines (take i (rowsIn l))
+textTo l i = openLine (stateOf l) ++ each (linesIn l) (take i (rowsIn l))
 
 each-one : (f : Entry → List ℕ) (e : Entry) → each f (e ∷ []) ≡ f e
 unfolding each
@@ -62,25 +66,25 @@ text-start : (l : List ℕ) → length (textTo l 0) ≡ length (openLine (stateO
 unfolding each
 text-start l = ap length (append-nil (openLine (stateOf l)))
 
-text-more : (l : List ℕ) (i : ℕ) → i < length (rowsIn l) → length (textTo l (suc i)) ≡ length (textTo l i) + length (rowLines (nth i (rowsIn l)))
+text-more : (l : List ℕ) (i : ℕ) → i < length (rowsIn l) → length (textTo l (suc i)) ≡ length (textTo l i) + length (linesIn l (nth i (rowsIn l)))
 text-more l i h =
-    let rows : each rowLines (take (suc i) (rowsIn l)) ≡ each rowLines (take i (rowsIn l)) ++ rowLines (nth i (rowsIn l)) =
-    ap (each rowLines) (take-suc (rowsIn l) i none h) ∙ each-append rowLines (take i (rowsIn l)) (nth i (rowsIn l) ∷ [])
-    ∙ ap (λ (t : List ℕ). each rowLines (take i (rowsIn l)) ++ t) (each-one rowLines (nth i (rowsIn l)))
+    let rows : each (linesIn l) (take (suc i) (rowsIn l)) ≡ each (linesIn l) (take i (rowsIn l)) ++ linesIn l (nth i (rowsIn l)) =
+    ap (each (linesIn l)) (take-suc (rowsIn l) i none h) ∙ each-append (linesIn l) (take i (rowsIn l)) (nth i (rowsIn l) ∷ [])
+    ∙ ap (λ (t : List ℕ). each (linesIn l) (take i (rowsIn l)) ++ t) (each-one (linesIn l) (nth i (rowsIn l)))
     in
-    ap length (ap (λ (t : List ℕ). openLine (stateOf l) ++ t) rows ∙ sym (append-assoc (openLine (stateOf l)) (each rowLines (take i (rowsIn l))) (rowLines (nth i (rowsIn l)))))
-    ∙ length-append (textTo l i) (rowLines (nth i (rowsIn l)))
+    ap length (ap (λ (t : List ℕ). openLine (stateOf l) ++ t) rows ∙ sym (append-assoc (openLine (stateOf l)) (each (linesIn l) (take i (rowsIn l))) (linesIn l (nth i (rowsIn l)))))
+    ∙ length-append (textTo l i) (linesIn l (nth i (rowsIn l)))
 
-text-begins : (l : List ℕ) (i : ℕ) → textTo l i ++ each rowLines (drop i (rowsIn l)) ≡ printed (stateOf l)
+text-begins : (l : List ℕ) (i : ℕ) → textTo l i ++ each (linesIn l) (drop i (rowsIn l)) ≡ printed (stateOf l)
 unfolding printed
 text-begins l i =
-    append-assoc (openLine (stateOf l)) (each rowLines (take i (rowsIn l))) (each rowLines (drop i (rowsIn l)))
+    append-assoc (openLine (stateOf l)) (each (linesIn l) (take i (rowsIn l))) (each (linesIn l) (drop i (rowsIn l)))
     ∙ ap (λ (t : List ℕ). openLine (stateOf l) ++ t)
-    (sym (each-append rowLines (take i (rowsIn l)) (drop i (rowsIn l))) ∙ ap (each rowLines) (take-append-drop i (rowsIn l)))
+    (sym (each-append (linesIn l) (take i (rowsIn l)) (drop i (rowsIn l))) ∙ ap (each (linesIn l)) (take-append-drop i (rowsIn l)))
 
 text-all : (l : List ℕ) (i : ℕ) → length (rowsIn l) ≤ i → textTo l i ≡ printed (stateOf l)
 unfolding printed
-text-all l i h = ap (λ (es : List Entry). openLine (stateOf l) ++ each rowLines es) (take-all i (rowsIn l) h)
+text-all l i h = ap (λ (es : List Entry). openLine (stateOf l) ++ each (linesIn l) es) (take-all i (rowsIn l) h)
 
 -- ---- turn by turn
 
@@ -126,7 +130,7 @@ goes-printed {l} {row} {r} g h = record {
   text = textTo l row;
   handed = g .bytes;
   bad = λ b. absurd (false≢true (sym b ∙ g .good));
-  good = λ b. (g .answer, each rowLines (drop row (rowsIn l)), text-begins l row);
+  good = λ b. (g .answer, each (linesIn l) (drop row (rowsIn l)), text-begins l row);
   all = λ b a. text-all l row (h a);
 }
 

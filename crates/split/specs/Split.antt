@@ -1,4 +1,4 @@
--- Input bytes as lines: a line ends with LF and has at most 200 bytes before it, and a last line without LF counts if it
+-- Input bytes as lines: a line ends with LF and has at most 216 bytes before it, and a last line without LF counts if it
 -- is not empty.
 --     Held               a line, as it is kept: its bytes, or that there are too many
 --     none, isNone       no byte yet
