@@ -3,6 +3,7 @@ use mathlib.Core.Path.{_≡_, refl, sym, ap, _∙_, subst, subst⁻¹}
 use mathlib.Core.Bool.{true, false}
 use mathlib.Core.List.{List}
 use Prim.Native.Nat.{ℕ, _≤_, _<_}
+use native.Mathlib.Omega.{arith}
 use borrow.Author.Tests.{le-leb, lt-leb, lt-ltb, le-ltb}
 use lib.Dec.{le→leb}
 use Rattle.meaning.specs.Events.{known, lastPolicyState}
@@ -39,9 +40,9 @@ module _ (l : List ℕ) (p k x g : ℕ) where
           pub event-13 : g < d → Gives (eventOf l p k x g) Late l
           event-13 t = gives (eventOf l p k x g) Late l (event-late l p k x g h v (le-leb k 3 u) n (lt-ltb g (due (happened k x) (stateOf l .policy)) (subst (λ (i : ℕ). g < i) q t)))
 
-          pub event-14 : d ≤ g → d < g → Gives (eventOf l p k x g) Ahead l
-          event-14 t a =
-              gives (eventOf l p k x g) Ahead l (event-ahead l p k x g h v (le-leb k 3 u) n (le-ltb g (due (happened k x) (stateOf l .policy)) (subst (λ (i : ℕ). i ≤ g) q t))
+          pub event-14 : d < g → Gives (eventOf l p k x g) Ahead l
+          event-14 a =
+              gives (eventOf l p k x g) Ahead l (event-ahead l p k x g h v (le-leb k 3 u) n (le-ltb g (due (happened k x) (stateOf l .policy)) (omega (arith, q, a)))
               (rw (lt-ltb (due (happened k x) (stateOf l .policy)) g (subst (λ (i : ℕ). i < g) q a)) refl))
 
           pub event-go : g ≡ d → g ≤ lastPolicyState → (r : Answer) (m : List ℕ) → Gives (eventIn l p (happened k x) g) r m → Gives (eventOf l p k x g) r m

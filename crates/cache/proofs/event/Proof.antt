@@ -111,23 +111,23 @@ module _ (c : tie.After-due) where
 
 returns-5 : tie.Need-returns-5
 returns-5 c =
-    let d = c .before in
+    let d = c .before .before in
     let s = start d in
-    event-13 (l d) (s .args .p) (s .args .kind) (s .args .number) (s .args .state) (is-good d) (ok d) (few d) (is-known d) (d .due .result) (is-due d) (c .if5 .taken)
+    event-13 (l d) (s .args .p) (s .args .kind) (s .args .number) (s .args .state) (is-good d) (ok d) (few d) (is-known d) (d .due .result) (is-due d) (c .if6 .taken)
 
 returns-6 : tie.Need-returns-6
 returns-6 c =
     let d = c .before .before in
     let s = start d in
-    event-14 (l d) (s .args .p) (s .args .kind) (s .args .number) (s .args .state) (is-good d) (ok d) (few d) (is-known d) (d .due .result) (is-due d) (c .before .if5 .left) (c .if6 .taken)
+    event-14 (l d) (s .args .p) (s .args .kind) (s .args .number) (s .args .state) (is-good d) (ok d) (few d) (is-known d) (d .due .result) (is-due d) (omega (arith, c .before .if5 .taken, c .if6 .left))
 
 enter-requires : tie.Need-enter-requires
 enter-requires c κs =
     let a = c .before in
-    let d = a .before .before in
+    let d = a .before in
     let h = d .before .before .before .before .before .before .before in
     let s = start d in
-    let now : s .args .state ≡ d .due .result = omega (arith, a .if6 .left, a .before .if5 .left) in (
+    let now : s .args .state ≡ d .due .result = a .if5 .left in (
       sound (l d) (is-true _ (is-good d)),
       subst⁻¹ (λ (f : Happening). T (known (stateOf (l d) .roles) f)) (h .happened .ensures) (is-true _ (is-known d)),
       now ∙ is-due d ∙ ap (λ (f : Happening). due f (stateOf (l d) .policy)) (sym (h .happened .ensures)),
@@ -138,10 +138,10 @@ returns-7 : tie.Need-returns-7
 returns-7 c =
     let w = c .before .before in
     let a = w .before .before in
-    let d = a .before .before in
+    let d = a .before in
     let h = d .before .before .before .before .before .before .before in
     let s = start d in
-    let now : s .args .state ≡ d .due .result = omega (arith, a .if6 .left, a .before .if5 .left) in
+    let now : s .args .state ≡ d .due .result = a .if5 .left in
     event-go (l d) (s .args .p) (s .args .kind) (s .args .number) (s .args .state) (is-good d) (ok d) (few d) (is-known d) (d .due .result) (is-due d) now (omega arith) _ _
     (subst (λ (f : Happening). Gives (eventIn (l d) (s .args .p) f (s .args .state)) (w .enter .result) (w .enter .last .0)) (h .happened .ensures) (w .enter .ensures))
 
