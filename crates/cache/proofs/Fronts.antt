@@ -8,13 +8,16 @@ use borrow.Author.Tests.{le-leb, lt-leb, lt-ltb, le-ltb}
 use lib.Dec.{le→leb}
 use Rattle.meaning.specs.Events.{known, lastPolicyState}
 use Rattle.meaning.specs.Rows.{blank}
+use Rattle.meaning.specs.States.{due}
+use Rattle.meaning.specs.Kinds.{happened}
+use Rattle.meaning.proofs.States.{due-not-late, due-not-ahead}
 use Rattle.area.specs.Layout.{goodBytes}
 use Rattle.area.specs.State.{withRow, stateOf, areaOf}
 use Rattle.calls.specs.declared.Answer.{Answer}
 use Rattle.calls.specs.declared.Answer.the-variants.{Recorded, BadArea, NoPermission, UnknownRole, BadVerdict, Late, Ahead}
-use Rattle.calls.specs.Calls.{Out, stays, valid, happened, due, eventIn, eventOf, forgetOf}
+use Rattle.calls.specs.Calls.{Out, stays, valid, eventIn, eventOf, forgetOf}
 use Rattle.calls.specs.Answers.{Gives}
-use Rattle.calls.proofs.CallLaws.{event-bad-area, event-no-permission, event-bad-kind, event-unknown, event-late, event-ahead, event-counts, due-not-late, due-not-ahead, forget-bad-area, forget-no-permission, forget-forgets}
+use Rattle.calls.proofs.CallLaws.{event-bad-area, event-no-permission, event-bad-kind, event-unknown, event-late, event-ahead, event-counts, forget-bad-area, forget-no-permission, forget-forgets}
 use Rattle.cache.proofs.Ladder.{gives}
 
 -- ---- an event, its numbers first

@@ -9,11 +9,12 @@ use Rattle.meaning.specs.declared.Happening.{Happening}
 use Rattle.meaning.specs.Events.{known, isReply, lastPolicyState}
 use Rattle.meaning.specs.Rows.{Row, Settled, settle}
 use Rattle.meaning.proofs.Answers.{contradicts-reply, Case, refused, taken, no-room, dropped, case}
+use Rattle.meaning.specs.States.{due}
 use Rattle.area.specs.State.{State, inPolicy, GoodState, rowFor, stateOf, areaOf}
 use Rattle.area.proofs.Bytes.{good-state, good-area, area-good, area-state}
 use Rattle.table.specs.Table.{Sound}
 use Rattle.table.proofs.RowWords.{sound}
-use Rattle.calls.specs.Calls.{fitsIn, due, settledIn, eventIn}
+use Rattle.calls.specs.Calls.{fitsIn, settledIn, eventIn}
 use Rattle.calls.proofs.CallLaws.{eventOn, event-in}
 use Rattle.calls.proofs.Outcomes.{policy-state}
 use Rattle.cache.specs.Here.{eventHere}

@@ -2,29 +2,31 @@
 use mathlib.Core.Path.{_≡_, refl, sym, ap, _∙_, subst, subst⁻¹}
 use mathlib.Core.Bool.{Bool, true, false, not, cond, _&&_, _||_, and-true, or-true}
 use mathlib.Core.List.{List, [], _∷_}
-use mathlib.Core.Logic.{_↔_, _≢_, inl, inr, ⊎-elim}
-use Prim.Native.Nat.{ℕ, zero, suc, _≤_, _<_}
+use mathlib.Core.Logic.{_↔_, _≢_, ⊎-elim}
+use Prim.Native.Nat.{ℕ, _≤_, _<_}
 use native.Mathlib.Nat.{lt-of-lt-of-le}
 use native.Mathlib.Omega.{arith}
-use borrow.Author.Tests.{ne-eqb, le-leb, lt-leb, lt-ltb, le-ltb}
-use lib.Dec.{T, T-not, eqb, ltb, leb, leb→le, ltb→lt}
+use borrow.Author.Tests.{le-leb, lt-ltb, le-ltb}
+use lib.Dec.{T, eqb, ltb, leb, leb→le, ltb→lt}
 use lib.ListN.{length}
 use lib.Pow.{pow-mono}
-use Rattle.roles.specs.Sets.{single, allBelow, Below, partOf, mostRoles}
-use Rattle.roles.proofs.Tests.{T?, T-and, T-or, T-true, unlike}
+use Rattle.roles.specs.Sets.{allBelow, Below, partOf, mostRoles}
+use Rattle.roles.proofs.Tests.{T-and, T-or, unlike}
 use Rattle.roles.proofs.Laws.{partOf-allBelow}
 use Rattle.refusals.specs.Refusals.{refusal}
 use Rattle.refusals.proofs.Laws.{refuse-has}
 use Rattle.meaning.specs.declared.Happening.{Happening}
-use Rattle.meaning.specs.declared.Happening.the-variants.{Given}
-use Rattle.meaning.specs.Events.{rolesIn, known, lastPermission, isReply}
+use Rattle.meaning.specs.Events.{known, lastPermission, isReply}
 use Rattle.meaning.specs.Rows.{Row, blank, fits, contradicts, step, unchanged, forgotten, overflow, settle, Decided, bare, decide}
+use Rattle.meaning.proofs.KindLaws.{reply-kind}
 use Rattle.meaning.proofs.Answers.{settle-contradicts, settle-records, settle-overflows}
 use Rattle.meaning.proofs.Theorems.{ask-some, ask-none, ask-most}
+use Rattle.meaning.specs.States.{isLate, isAhead}
+use Rattle.meaning.specs.Kinds.{lastKind, happened}
 use Rattle.area.specs.Layout.{mostRows, areaBytes, goodBytes}
 use Rattle.area.specs.State.{State, opened, inPolicy, isBlank, rowFor, withRow, stateOf}
 use Rattle.area.proofs.Bytes.{good-state}
-use Rattle.calls.specs.Calls.{Out, stays, writes, valid, isState, fitsIn, areaRefusals, lastKind, happened, due, isLate, isAhead, settledIn, eventIn, eventOf, openOf, decideOf, forgetOf}
+use Rattle.calls.specs.Calls.{Out, stays, writes, valid, fitsIn, areaRefusals, settledIn, eventIn, eventOf, openOf, decideOf, forgetOf}
 
 pub valid-law : (p : ℕ) → T (valid p) ↔ ((1 ≤ p) × (p ≤ lastPermission))
 valid-law p = (
@@ -170,38 +172,6 @@ module _ (l : List ℕ) (p k x g : ℕ) where
             unfolding eventOf
             event-counts a = rw (h, v, u, n, t, a)
 
--- ---- which events count
-
-module _ (e : Happening) (i g : ℕ) where
-  pub due-counts : isLate e i g ≡ false → isAhead e i g ≡ false → (g ≡ due e i) × T (isState g)
-  due-counts t a =
-      let x : ¬ (g < due e i) = λ u. let z : _≡_ {A = ℕ} 0 1 = cc (lt-ltb g (due e i) u) in omega arith in
-      let y : ¬ (due e i < g) = λ u. T-not (isAhead e i g) (subst⁻¹ (λ (b : Bool). T (not b)) a tt) (T-or (ltb (due e i) g) (not (isState g)) .1 (inl (subst⁻¹ T (lt-ltb (due e i) g u) tt))) in
-      let s : T (isState g) = ⊎-elim (λ u. u) (λ u. absurd (T-not (isAhead e i g) (subst⁻¹ (λ (b : Bool). T (not b)) a tt) (T-or (ltb (due e i) g) (not (isState g)) .1 (inr u)))) (T? (isState g)) in
-      (omega (arith, x, y), s)
-
-  pub due-not-late : g ≡ due e i → isLate e i g ≡ false
-  due-not-late q = le-ltb g (due e i) (omega arith)
-
-  pub due-not-ahead : g ≡ due e i → T (isState g) → isAhead e i g ≡ false
-  due-not-ahead q s = rw (le-ltb (due e i) g (omega arith), T-true (isState g) s)
-
--- from 3 on, of which the call takes 3 alone
-pub given-kind : (k x : ℕ) → (k ≡ 0 → ⊥) → (k ≡ 1 → ⊥) → (k ≡ 2 → ⊥) → happened k x ≡ Given x
-unfolding happened
-given-kind k x a b c = rw (ne-eqb k 0 a, ne-eqb k 1 b, ne-eqb k 2 c)
-
-from-three : (k x : ℕ) → happened (suc (suc (suc k))) x ≡ Given x
-from-three k x = given-kind (suc (suc (suc k))) x (λ e. omega arith) (λ e. omega arith) (λ e. omega arith)
-
--- kinds 0 and 1 are replies
-pub reply-kind : (k x : ℕ) → isReply (happened k x) ≡ leb k 1
-unfolding happened
-reply-kind zero x = refl
-reply-kind (suc zero) x = refl
-reply-kind (suc (suc zero)) x = refl
-reply-kind (suc (suc (suc k))) x = ap isReply (from-three k x) ∙ sym (lt-leb (suc (suc (suc k))) 1 (omega arith))
-
 -- so 7 is theirs, and 8 that of the others
 pub unfit-answer : (l : List ℕ) (s : State) (k x : ℕ) → cond (isReply (happened k x)) (stays 7 l) (writes 8 s) .answer ≡ cond (leb k 1) 7 8
 unfit-answer l s k x = go (isReply (happened k x)) ∙ ap (λ (b : Bool). cond b 7 8) (reply-kind k x)
@@ -209,14 +179,6 @@ unfit-answer l s k x = go (isReply (happened k x)) ∙ ap (λ (b : Bool). cond b
     go : (b : Bool) → cond b (stays 7 l) (writes 8 s) .answer ≡ cond b 7 8
     go true = refl
     go false = refl
-
--- their number is a set, that of the other kinds a role
-pub roles-kind : (k x : ℕ) → rolesIn (happened k x) ≡ cond (leb k 1) x (single x)
-unfolding happened rolesIn
-roles-kind zero x = refl
-roles-kind (suc zero) x = refl
-roles-kind (suc (suc zero)) x = refl
-roles-kind (suc (suc (suc k))) x = ap rolesIn (from-three k x) ∙ sym (ap (λ (b : Bool). cond b x (single x)) (lt-leb (suc (suc (suc k))) 1 (omega arith)))
 
 -- ---- a decision
 

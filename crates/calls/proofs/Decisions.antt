@@ -12,18 +12,19 @@ use Rattle.roles.proofs.Tests.{unlike}
 use Rattle.roles.proofs.Laws.{partOf-allBelow}
 use Rattle.meaning.specs.declared.Happening.{Happening}
 use Rattle.meaning.specs.Events.{known, Possible, Decides, AskAbout}
-use Rattle.meaning.specs.States.{happenings}
+use Rattle.meaning.specs.States.{happenings, due}
 use Rattle.meaning.specs.Rows.{Row, blank, Leaves, contradicts, Decided, bare, decide, rowAfter}
-use Rattle.meaning.proofs.States.{possible-in}
+use Rattle.meaning.proofs.States.{possible-in, due-not-late, due-not-ahead}
 use Rattle.meaning.proofs.Verdicts.{decides-same, ask-same}
 use Rattle.meaning.proofs.Theorems.{row-leaves, row-decides, row-asks, ask-one, trail-contradicts}
+use Rattle.meaning.specs.Kinds.{happened}
 use Rattle.area.specs.Layout.{goodBytes}
 use Rattle.area.specs.State.{State, GoodState, rowFor, stateOf, areaOf}
 use Rattle.area.proofs.Bytes.{area-good, area-state}
-use Rattle.calls.specs.Calls.{valid, happened, due, eventOf, decideOf}
+use Rattle.calls.specs.Calls.{valid, eventOf, decideOf}
 use Rattle.calls.specs.Histories.{Call, opening, event, ask, forget, Trail, trailOn, trailAfter, rolesAfter, Past, called, area, answerTo, roles, policy, trail, PossibleAfter}
 use Rattle.calls.specs.Demands as demands
-use Rattle.calls.proofs.CallLaws.{valid-law, due-not-late, due-not-ahead, decide-no-permission, decide-unknown, decide-bare, decide-asks}
+use Rattle.calls.proofs.CallLaws.{valid-law, decide-no-permission, decide-unknown, decide-bare, decide-asks}
 use Rattle.calls.proofs.Outcomes.{area-is-good, decide-on}
 use Rattle.calls.proofs.Invariant.{holds}
 use Rattle.calls.proofs.Grounds.{unknown-event, late-event, ahead-event, demand-1}

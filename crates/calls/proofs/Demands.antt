@@ -20,8 +20,8 @@ forgetting = forgets.forgetting
 pub header : demands.Header
 header = decisions.header
 
-pub kinds : demands.Kinds
-kinds = streams.kinds
+pub comes-in : demands.ComesIn
+comes-in = streams.comes
 
 pub demand-2 : demands.Demand2
 demand-2 = decisions.demand-2

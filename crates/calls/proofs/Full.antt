@@ -11,22 +11,23 @@ use lib.ListN.{length}
 use Rattle.roles.proofs.Tests.{T?, T-true, T-false, unlike}
 use Rattle.meaning.specs.declared.Happening.{Happening}
 use Rattle.meaning.specs.Events.{known, Effect, Possible, isReply}
-use Rattle.meaning.specs.States.{Numbered, numbered}
+use Rattle.meaning.specs.States.{Numbered, numbered, due}
 use Rattle.meaning.specs.Rows.{Row, blank, Leaves, Good, mostOpens, fits, contradicts, step}
 use Rattle.meaning.proofs.Answers.{fits-law}
 use Rattle.meaning.proofs.Trails.{possible-then}
-use Rattle.meaning.proofs.States.{possible-in, timely-later, timely-then, happenings-then}
+use Rattle.meaning.proofs.States.{possible-in, timely-later, timely-then, happenings-then, due-follows, due-later}
 use Rattle.meaning.proofs.Verdicts.{largest, largest-left}
 use Rattle.meaning.proofs.Theorems.{step-leaves, contradicts-law, step-good, canonical}
+use Rattle.meaning.specs.Kinds.{lastKind, happened}
 use Rattle.area.specs.Layout.{mostRows}
 use Rattle.area.specs.State.{State, Entry, inPolicy, GoodState, isBlank, rowFor, put, withRow, areaOf}
 use Rattle.area.proofs.RowLaws.{hit-law, hit?, rowFor-good, rowFor-few, rowFor-put-same, rowFor-put-other, put-good, length-put-new, rows-ext}
-use Rattle.calls.specs.Calls.{Out, stays, writes, valid, fitsIn, lastKind, happened, due, eventOf}
+use Rattle.calls.specs.Calls.{Out, stays, writes, valid, fitsIn, eventOf}
 use Rattle.calls.specs.Histories.{Trail, longer, Past, roles, policy, trail, PossibleOn}
 use Rattle.calls.specs.Demands as demands
 use Rattle.calls.proofs.CallLaws.{valid-law, fitsIn-policy, fitsIn-over, fitsIn-blank, fitsIn-room, eventOn, event-contradicts, event-unfit, event-recorded, unfit-answer}
 use Rattle.calls.proofs.Outcomes.{put-state, event-is}
-use Rattle.calls.proofs.Invariant.{holds, trailOn-recorded, trailOn-other, due-follows, due-later}
+use Rattle.calls.proofs.Invariant.{holds, trailOn-recorded, trailOn-other}
 use Rattle.calls.proofs.Decisions.{in-time, told, came}
 
 -- ---- an event about p that is due

@@ -1,29 +1,33 @@
 -- Demand 1: each answer exactly on its ground. Assumes nothing.
-use mathlib.Core.Path.{_≡_, refl, ap, _∙_, subst⁻¹}
-use mathlib.Core.Bool.{Bool, true, false, not, cond, _&&_, _||_}
+use mathlib.Core.Path.{_≡_, refl, ap, _∙_, subst, subst⁻¹}
+use mathlib.Core.Bool.{Bool, true, false, not, cond, _&&_}
 use mathlib.Core.List.{List, [], _∷_}
 use mathlib.Core.Logic.{_↔_, _≢_, inl, inr, ⊎-elim}
-use Prim.Native.Nat.{ℕ, suc, _^_, _≤_, _<_}
+use Prim.Native.Nat.{ℕ, _^_, _≤_, _<_}
 use native.Mathlib.Omega.{arith}
 use borrow.Author.Tests.{eq-eqb, ne-eqb}
-use lib.Dec.{T, T-not, not-T, eqb, ltb, leb, eqb→eq, ltb→lt, lt→ltb, leb→le, le→leb, nleb→lt}
+use lib.Dec.{T, T-not, not-T, eqb, leb, eqb→eq, leb→le, le→leb, nleb→lt}
 use lib.ListN.{length}
 use Rattle.roles.specs.Sets.{single, allBelow, partOf, mostRoles}
-use Rattle.roles.proofs.Tests.{T?, T-and, T-or, T-true, T-false, not-test}
+use Rattle.roles.proofs.Tests.{T?, T-and, T-true, T-false, not-test}
 use Rattle.roles.proofs.Laws.{partOf-allBelow, single-below, below-single}
 use Rattle.refusals.specs.Refusals.{Refusal, refusal, refuse, Ground, ground, Exactly}
 use Rattle.refusals.proofs.Laws.{lacks, distinct, Tests, refuse-has, refuse-exactly}
 use Rattle.meaning.specs.declared.Happening.{Happening}
-use Rattle.meaning.specs.Events.{known, Verdict, isReply}
+use Rattle.meaning.specs.Events.{known, Verdict, isReply, Reply}
 use Rattle.meaning.specs.Rows.{Row, blank, contradicts, step, fits, bare, decide}
 use Rattle.meaning.proofs.Answers.{fits-law}
+use Rattle.meaning.proofs.States.{timing}
 use Rattle.meaning.proofs.Theorems.{one-of-three}
+use Rattle.meaning.specs.States.{isLate, isAhead}
+use Rattle.meaning.specs.Kinds.{lastKind, happened}
+use Rattle.meaning.proofs.KindLaws.{reply-kind, roles-kind}
 use Rattle.area.specs.Layout.{mostRows, areaBytes, goodBytes}
 use Rattle.area.specs.State.{State, opened, inPolicy, isBlank, rowFor, withRow, stateOf}
-use Rattle.calls.specs.Calls.{Out, stays, writes, valid, isState, fitsIn, openRefusals, areaRefusals, lastKind, happened, isLate, isAhead, eventRefusals, eventOf, openOf, decideOf, forgetOf}
+use Rattle.calls.specs.Calls.{Out, stays, writes, valid, fitsIn, openRefusals, areaRefusals, eventRefusals, eventOf, openOf, decideOf, forgetOf}
 use Rattle.calls.specs.Histories.{outOf}
 use Rattle.calls.specs.Demands.{OnGrounds, IsRecorded, areaGrounds, Unknown, Late, Ahead, NoPlace, noRoom, eventGrounds, Demand1}
-use Rattle.calls.proofs.CallLaws.{valid-law, fitsIn-law, fitsIn-policy, fitsIn-over, fitsIn-blank, fitsIn-room, eventOn, event-in, event-contradicts, event-unfit, event-recorded, reply-kind, roles-kind}
+use Rattle.calls.proofs.CallLaws.{valid-law, fitsIn-law, fitsIn-policy, fitsIn-over, fitsIn-blank, fitsIn-room, eventOn, event-in, event-contradicts, event-unfit, event-recorded}
 
 -- ---- what the tests say
 
@@ -58,36 +62,34 @@ unknown-event n k x = rw (roles-kind k x) (go (leb k 1) refl)
         ((λ t. inr (many, unknown-role n x .0 t)), ⊎-elim (λ u. absurd (let few : k ≤ 1 = u .0 in let z : ⊥ = omega arith in z)) (λ u. unknown-role n x .1 (u .1)))
 
 -- before the state that is due, and after it
-pub late-event : (k x i g : ℕ) → T (isLate (happened k x) i g) ↔ Late k i g
-late-event k x i g = rw (reply-kind k x) (go (leb k 1) refl)
-  where
-    go : (b : Bool) → leb k 1 ≡ b → T (ltb g (cond b i (suc i))) ↔ Late k i g
-    go true e =
-        let few : k ≤ 1 = leb→le k 1 (subst⁻¹ T e tt) in
-        ((λ t. inl (few, ltb→lt g i t)), ⊎-elim (λ u. lt→ltb g i (u .1)) (λ u. absurd (let many : 1 < k = u .0 in let z : ⊥ = omega arith in z)))
-    go false e =
-        let many : 1 < k = nleb→lt k 1 (subst⁻¹ (λ (b : Bool). T (not b)) e tt) in (
-          (λ t. inr (many, let h : g < suc i = ltb→lt g (suc i) t in omega arith)),
-          ⊎-elim (λ u. absurd (let few : k ≤ 1 = u .0 in let z : ⊥ = omega arith in z)) (λ u. lt→ltb g (suc i) (let h : g ≤ i = u .1 in omega arith)),
-        )
+module _ (k x i g : ℕ) where
+  abbrev f : Happening
+  f = happened k x
 
-pub ahead-event : (k x i g : ℕ) → T (isAhead (happened k x) i g) ↔ Ahead k i g
-ahead-event k x i g = rw (reply-kind k x) (go (leb k 1) refl)
-  where
-    no-state : T (not (isState g)) ↔ (4294967295 < g)
-    no-state = ((λ t. nleb→lt g 4294967295 t), λ h. not-T (isState g) (λ t. let u : g ≤ 4294967295 = leb→le g 4294967295 t in omega arith))
+  few : Reply f → k ≤ 1
+  few r = leb→le k 1 (subst T (reply-kind k x) r)
 
-    go : (b : Bool) → leb k 1 ≡ b → T (ltb (cond b i (suc i)) g || not (isState g)) ↔ Ahead k i g
-    go true e =
-        let few : k ≤ 1 = leb→le k 1 (subst⁻¹ T e tt) in (
-          (λ t. ⊎-elim (λ u. inl (few, ltb→lt i g u)) (λ u. inr (inr (no-state .0 u))) (T-or (ltb i g) (not (isState g)) .0 t)),
-          λ a. T-or (ltb i g) (not (isState g)) .1 (⊎-elim (λ u. inl (lt→ltb i g (u .1))) (⊎-elim (λ u. absurd (let many : 1 < k = u .0 in let z : ⊥ = omega arith in z)) (λ u. inr (no-state .1 u))) a),
-        )
-    go false e =
-        let many : 1 < k = nleb→lt k 1 (subst⁻¹ (λ (b : Bool). T (not b)) e tt) in (
-          (λ t. ⊎-elim (λ u. inr (inl (many, ltb→lt (suc i) g u))) (λ u. inr (inr (no-state .0 u))) (T-or (ltb (suc i) g) (not (isState g)) .0 t)),
-          λ a. T-or (ltb (suc i) g) (not (isState g)) .1 (⊎-elim (λ u. absurd (let few : k ≤ 1 = u .0 in let z : ⊥ = omega arith in z)) (⊎-elim (λ u. inl (lt→ltb (suc i) g (u .1))) (λ u. inr (no-state .1 u))) a),
-        )
+  many : ¬ (Reply f) → 1 < k
+  many n = let h : ¬ (k ≤ 1) = λ u. n (subst⁻¹ T (reply-kind k x) (le→leb k 1 u)) in omega (arith, h)
+
+  pub late-event : T (isLate f i g) ↔ Late k i g
+  late-event = ⊎-elim
+      (λ r. let q = timing .reply-late f r i g in let h = few r in ((λ t. inl (h, q .0 t)), ⊎-elim (λ u. q .1 (u .1)) (λ u. absurd (let z : 1 < k = u .0 in let n : ⊥ = omega arith in n))))
+      (λ r. let n : ¬ (Reply f) = T-not (isReply f) r in let q = timing .update-late f n i g in let h = many n in
+      ((λ t. inr (h, q .0 t)), ⊎-elim (λ u. absurd (let z : k ≤ 1 = u .0 in let n : ⊥ = omega arith in n)) (λ u. q .1 (u .1))))
+      (T? (isReply f))
+
+  pub ahead-event : T (isAhead f i g) ↔ Ahead k i g
+  ahead-event = ⊎-elim
+      (λ r. let q = timing .reply-ahead f r i g in let h = few r in (
+        (λ t. ⊎-elim (λ u. inl (h, u)) (λ u. inr (inr u)) (q .0 t)),
+        ⊎-elim (λ u. q .1 (inl (u .1))) (⊎-elim (λ u. absurd (let z : 1 < k = u .0 in let n : ⊥ = omega arith in n)) (λ u. q .1 (inr u))),
+      ))
+      (λ r. let n : ¬ (Reply f) = T-not (isReply f) r in let q = timing .update-ahead f n i g in let h = many n in (
+        (λ t. ⊎-elim (λ u. inr (inl (h, u))) (λ u. inr (inr u)) (q .0 t)),
+        ⊎-elim (λ u. absurd (let z : k ≤ 1 = u .0 in let n : ⊥ = omega arith in n)) (⊎-elim (λ u. q .1 (inl (u .1))) (λ u. q .1 (inr u))),
+      ))
+      (T? (isReply f))
 
 module _ (s : State) (p : ℕ) (w : Row) where
   -- where a row that is not too long has no place, it would be a new one, and 128 are used

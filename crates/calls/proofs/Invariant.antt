@@ -8,20 +8,21 @@ use Prim.Native.Nat.{ℕ, suc, _≤_}
 use native.Mathlib.Decide.{ℕ-discrete}
 use native.Mathlib.Omega.{arith}
 use borrow.Author.Tests.{eq-eqb, ne-eqb}
-use lib.Dec.{T, eqb, leb, ltb, leb→le, le→leb, lt→ltb}
+use lib.Dec.{T, eqb, leb, leb→le}
 use lib.ListN.{length}
 use Rattle.roles.proofs.Tests.{T-and}
 use Rattle.roles.specs.Sets.{mostRoles}
 use Rattle.meaning.specs.declared.Happening.{Happening}
 use Rattle.meaning.specs.Events.{known, isReply, lastPolicyState}
-use Rattle.meaning.specs.States.{Numbered, numbered, happenings, follows, Timely}
+use Rattle.meaning.specs.States.{Numbered, numbered, happenings, Timely, isState, due}
 use Rattle.meaning.specs.Rows.{Row, blank, fits, step, settle, rowAfter, Recorded}
-use Rattle.meaning.proofs.States.{timely-later, timely-then, happenings-then}
+use Rattle.meaning.proofs.States.{due-follows, due-later, timely-later, timely-then, happenings-then}
+use Rattle.meaning.specs.Kinds.{happened}
 use Rattle.area.specs.Layout.{areaBytes}
 use Rattle.area.specs.State.{State, inPolicy, GoodState, rowFor, put, withRow, areaOf}
 use Rattle.area.specs.State as states
 use Rattle.area.proofs.RowLaws.{rowFor-put-same, rowFor-put-other}
-use Rattle.calls.specs.Calls.{Out, stays, writes, isState, happened, due, openOf, eventOf, forgetOf}
+use Rattle.calls.specs.Calls.{Out, stays, writes, openOf, eventOf, forgetOf}
 use Rattle.calls.specs.Histories.{Call, opening, event, ask, forget, outOf, Trail, fresh, longer, trailOn, trailAfter, rolesAfter, policyOn, policyAfter, Past, opened, called, area, roles, policy, trail}
 use Rattle.calls.proofs.CallLaws.{open-law}
 use Rattle.calls.proofs.Outcomes.{Outcome, refused, recorded, forgotten, drop-state, event-does, forget-on}
@@ -87,20 +88,6 @@ policyOn-recorded e i t = go (isReply (e .happening)) t
 pub policyOn-forgotten : (e : Numbered) (i : ℕ) → isReply (e .happening) ≡ false → policyOn e 8 i ≡ e .state
 unfolding policyOn
 policyOn-forgotten e i r = rw r
-
-pub due-follows : (e : Numbered) (i : ℕ) → e .state ≡ due (e .happening) i → T (follows i e)
-due-follows e i t = go (isReply (e .happening)) t
-  where
-    go : (b : Bool) → e .state ≡ cond b i (suc i) → T (cond b (leb i (e .state)) (ltb i (e .state)))
-    go true q = le→leb i (e .state) (omega arith)
-    go false q = lt→ltb i (e .state) (omega arith)
-
-pub due-later : (e : Happening) (i : ℕ) → i ≤ due e i
-due-later e i = go (isReply e)
-  where
-    go : (b : Bool) → i ≤ cond b i (suc i)
-    go true = omega arith
-    go false = omega arith
 
 -- ---- one call more
 

@@ -13,20 +13,21 @@ use Rattle.roles.specs.Sets.{mostRoles}
 use Rattle.roles.proofs.Tests.{T?, T-ext, T-true}
 use Rattle.meaning.specs.declared.Happening.{Happening}
 use Rattle.meaning.specs.Events.{known, isReply, HolderSet}
-use Rattle.meaning.specs.States.{Numbered, numbered, happenings}
+use Rattle.meaning.specs.States.{Numbered, numbered, happenings, isState, due, isLate, isAhead}
 use Rattle.meaning.specs.Rows.{Row, blank, Leaves, Good, fits, contradicts, step, rowAfter, Decided}
 use Rattle.meaning.proofs.Kept.{blank-good, step-good}
 use Rattle.meaning.proofs.Trails.{blank-leaves}
-use Rattle.meaning.proofs.States.{happenings-then}
+use Rattle.meaning.proofs.States.{happenings-then, due-counts}
 use Rattle.meaning.proofs.Theorems.{canonical}
+use Rattle.meaning.specs.Kinds.{lastKind, happened}
 use Rattle.area.specs.Layout.{mostRows, areaBytes, goodBytes}
 use Rattle.area.specs.State.{State, inPolicy, GoodState, isBlank, rowFor, withRow, areaOf}
 use Rattle.area.proofs.RowLaws.{isBlank-law, rowFor-good}
 use Rattle.area.proofs.Bytes.{length-area}
-use Rattle.calls.specs.Calls.{Out, valid, isState, fitsIn, lastKind, happened, due, isLate, isAhead, eventOf, openOf, forgetOf}
+use Rattle.calls.specs.Calls.{Out, valid, fitsIn, eventOf, openOf, forgetOf}
 use Rattle.calls.specs.Histories.{Call, opening, event, ask, forget, outOf, Trail, trailOn, trailAfter, rolesAfter, policyOn, policyAfter, Past, called, area, answerTo, roles, policy, trail}
 use Rattle.calls.specs.Demands as demands
-use Rattle.calls.proofs.CallLaws.{open-bad-count, open-recorded, fitsIn-law, fitsIn-policy, eventOn, event-contradicts, event-unfit, event-recorded, event-no-permission, event-bad-kind, event-unknown, event-late, event-ahead, due-counts, unfit-answer, forget-no-permission, forget-forgets}
+use Rattle.calls.proofs.CallLaws.{open-bad-count, open-recorded, fitsIn-law, fitsIn-policy, eventOn, event-contradicts, event-unfit, event-recorded, event-no-permission, event-bad-kind, event-unknown, event-late, event-ahead, unfit-answer, forget-no-permission, forget-forgets}
 use Rattle.calls.proofs.Outcomes.{Outcome, refused, recorded, forgotten, area-is-good, known-in, late-in, ahead-in, event-is, event-does}
 use Rattle.calls.proofs.Invariant.{holds, row-then, trailOn-recorded, policyOn-refused, policyOn-recorded, policyOn-forgotten}
 use Rattle.calls.proofs.Decisions.{area-held, leaves-possible, other-roles, other-row, no-other}

@@ -15,15 +15,16 @@ use Rattle.meaning.specs.declared.Event.{Event}
 use Rattle.meaning.specs.declared.Happening.{Happening}
 use Rattle.meaning.specs.declared.Happening.the-variants.{Allow, Deny, Given, Withdrawn}
 use Rattle.meaning.specs.Events.{isReply, Reply, after, Becomes, Possible}
-use Rattle.meaning.specs.States.{Numbered, numbered, happenings}
+use Rattle.meaning.specs.States.{Numbered, numbered, happenings, due}
 use Rattle.meaning.proofs.Trails.{becomes-swap}
-use Rattle.meaning.proofs.States.{happenings-then}
+use Rattle.meaning.proofs.States.{happenings-then, due-later}
+use Rattle.meaning.specs.Kinds.{happened}
 use Rattle.area.specs.State.{State, areaOf}
-use Rattle.calls.specs.Calls.{Out, happened, due, eventOf}
+use Rattle.calls.specs.Calls.{Out, eventOf}
 use Rattle.calls.specs.Histories.{Call, event, outOf, Trail, longer, trailOn, trailAfter, rolesAfter, policyOn, policyAfter, Past, called, area, answerTo, roles, policy, trail, callFor, callOf, calls, afterCalls, At, AllRecorded}
 use Rattle.calls.specs.Demands as demands
 use Rattle.calls.proofs.Outcomes.{Outcome, refused, recorded, forgotten, event-does}
-use Rattle.calls.proofs.Invariant.{holds, policyOn-recorded, due-later}
+use Rattle.calls.proofs.Invariant.{holds, policyOn-recorded}
 
 unfoldable pub eventsOf : ℕ → List Event → List Happening
 eventsOf p [] = []
@@ -97,11 +98,8 @@ comes-in p (Allow s) g = (1, s .bits, omega arith, refl, refl)
 comes-in p (Withdrawn r) g = (2, r, omega arith, refl, refl)
 comes-in p (Given r) g = (3, r, omega arith, refl, refl)
 
-pub kinds : demands.Kinds
-unfolding happened
-kinds = record {
-  replies = λ s. (refl, refl);
-  updates = λ r. (refl, refl);
+pub comes : demands.ComesIn
+comes = record {
   calls = comes-in;
   trails = λ p e g i t. trail-call p p e g i t ∙ ap (λ (b : Bool). cond b (longer (numbered e g) t) t) (eq-eqb p p refl);
 }

@@ -1,12 +1,9 @@
 -- The calls: what each answers, and the bytes of the lent area after it, as the table of Rules, Answers, reads; what decide gives.
 --     Out                   an answer with the bytes afterwards
 --     stays a l, writes a s the answer a, and the bytes l, or those of the state s
---     valid p, isState g    p is a permission, 1 to 4,294,967,295; g is a policy state, 0 to 4,294,967,295
+--     valid p               p is a permission, 1 to 4,294,967,295
 --     fitsIn s p w          w fits as the row of p: at most 15 open sets, and where it would be a new row, fewer than 128 are used
 --     openRefusals, areaRefusals    the refusals of open, those that every other call begins with
---     lastKind, happened k x        kinds are 0 to this one; what happened, as kind and number say it
---     due e i               the policy state in which the event e counts on an area in state i: a reply in that state, an update in the next
---     isLate, isAhead e i g it names a state g before that one; after it
 --     eventRefusals         the refusals of an event before its row is looked at
 --     settledIn l s p t     t is the answer to an event on the row of p: 0 and 8 put the row in its place, 6 and 7 leave every byte
 --     eventIn l p e g       an event of known roles that counts on a good area, whose policy state is then the one that it names
@@ -14,14 +11,15 @@
 --     decideOf              decide, refusals in the order 1, 3, 4: an answer and a role, 64 with each refusal; the bytes are only read
 use mathlib.Core.Bool.{Bool, not, cond, _&&_, _||_}
 use mathlib.Core.List.{List, [], _∷_}
-use Prim.Native.Nat.{ℕ, suc}
+use Prim.Native.Nat.{ℕ}
 use lib.Dec.{eqb, ltb, leb}
 use lib.ListN.{length}
 use Rattle.roles.specs.Sets.{allBelow, partOf, mostRoles}
 use Rattle.refusals.specs.Refusals.{Refusal, refusal, refuse}
 use Rattle.meaning.specs.declared.Happening.{Happening}
-use Rattle.meaning.specs.declared.Happening.the-variants.{Allow, Deny, Given, Withdrawn}
-use Rattle.meaning.specs.Events.{known, lastPermission, lastPolicyState, isReply}
+use Rattle.meaning.specs.Events.{known, lastPermission}
+use Rattle.meaning.specs.States.{isLate, isAhead}
+use Rattle.meaning.specs.Kinds.{lastKind, happened}
 use Rattle.meaning.specs.Rows.{Row, blank, fits, Settled, settle, Decided, bare, decide}
 use Rattle.area.specs.Layout.{mostRows, areaBytes, goodBytes}
 use Rattle.area.specs.State.{State, opened, inPolicy, isBlank, rowFor, withRow, stateOf, areaOf}
@@ -38,9 +36,6 @@ writes a s = record { answer = a; area = areaOf s }
 
 abbrev pub valid : ℕ → Bool
 valid p = leb 1 p && leb p lastPermission
-
-abbrev pub isState : ℕ → Bool
-isState g = leb g lastPolicyState
 
 unfoldable pub fitsIn : State → ℕ → Row → Bool
 fitsIn s p w = fits w && (ltb (length (s .rows)) mostRows || (not (isBlank (rowFor p (s .rows))) || isBlank w))
@@ -59,27 +54,6 @@ abbrev pub areaRefusals : List ℕ → ℕ → List Refusal → List Refusal
 areaRefusals l p rs = refusal 1 (not (goodBytes l)) ∷ refusal 3 (not (valid p)) ∷ rs
 
 -- ---- events
-
-abbrev pub lastKind : ℕ
-lastKind = 3
-
--- kind 0 is deny and 1 allow, and the number a set; 2 is withdrawn and 3 given, and the number a role; what is above 3 is refused before
-unfoldable pub happened : ℕ → ℕ → Happening
-happened k x =
-    cond (eqb k 0) (Deny (record { bits = x }))
-    (cond (eqb k 1) (Allow (record { bits = x }))
-    (cond (eqb k 2) (Withdrawn x)
-    (Given x)))
-
-abbrev pub due : Happening → ℕ → ℕ
-due e i = cond (isReply e) i (suc i)
-
-abbrev pub isLate : Happening → ℕ → ℕ → Bool
-isLate e i g = ltb g (due e i)
-
--- a number that is no policy state is after them all
-abbrev pub isAhead : Happening → ℕ → ℕ → Bool
-isAhead e i g = ltb (due e i) g || not (isState g)
 
 -- a kind that is none, an unknown role, a state too early, a state too late
 abbrev pub eventRefusals : List ℕ → ℕ → ℕ → Happening → ℕ → List Refusal

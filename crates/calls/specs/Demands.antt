@@ -11,7 +11,7 @@
 --     Demand1                any numbers and any bytes get an answer of the table, each refusal exactly on its ground
 --     NoRow l p, Forgetting  p has no row; so it is after 8 and after a forget
 --     Header                 over every past the area has its role count and its policy state
---     Kinds                  what each kind says of the number beside it; the kind and number by which each event comes in, and that it is on the trail
+--     ComesIn                the kind and number by which each event comes in, and that it is on the trail
 --     InTime                 over every past the recorded events name states one behind the other, up to the area's own
 --     Demand2                over every past decide says what the possible holder sets of the present policy state force
 --     AsItCame               so recorded, a reply is also true as it comes: the possible holder sets are those of the trail as document 01 reads it
@@ -43,18 +43,17 @@ use lib.Dec.{T, leb}
 use lib.ListN.{length}
 use Rattle.words.specs.Words.{Bytes}
 use Rattle.roles.specs.Sets.{Below}
-use Rattle.roles.specs.declared.RoleSet.{RoleSet}
 use Rattle.refusals.specs.Refusals.{Ground, ground, Exactly}
 use Rattle.meaning.specs.declared.Event.{Event}
 use Rattle.meaning.specs.declared.Happening.{Happening}
-use Rattle.meaning.specs.declared.Happening.the-variants.{Allow, Deny, Given, Withdrawn}
 use Rattle.meaning.specs.Events.{known, agrees, HolderSet, Possible, Verdict, Decides, AskAbout}
-use Rattle.meaning.specs.States.{Numbered, numbered, happenings, Timely}
+use Rattle.meaning.specs.States.{Numbered, numbered, happenings, Timely, isState, due}
 use Rattle.meaning.specs.Rows as meaning
 use Rattle.meaning.specs.Rows.{Row, Leaves, contradicts, step}
+use Rattle.meaning.specs.Kinds.{happened}
 use Rattle.area.specs.Layout.{goodBytes}
 use Rattle.area.specs.State.{State, inPolicy, GoodState, isBlank, rowFor, stateOf, areaOf}
-use Rattle.calls.specs.Calls.{Out, valid, isState, happened, due, openOf, eventOf, decideOf, forgetOf}
+use Rattle.calls.specs.Calls.{Out, valid, openOf, eventOf, decideOf, forgetOf}
 use Rattle.calls.specs.declared.Answer.{Answer}
 use Rattle.calls.specs.declared.Decided.{Decided}
 use Rattle.calls.specs.Answers.{Gives, decidedOf}
@@ -127,9 +126,7 @@ pub record Forgetting : Type 0 where
 abbrev pub Header : Type 0
 Header = (h : Past) → (stateOf (area h) .roles ≡ roles h) × (stateOf (area h) .policy ≡ policy h)
 
-pub record Kinds : Type 0 where
-  pub replies : (s : RoleSet) → (happened 0 (s .bits) ≡ Deny s) × (happened 1 (s .bits) ≡ Allow s)
-  pub updates : (r : ℕ) → (happened 2 r ≡ Withdrawn r) × (happened 3 r ≡ Given r)
+pub record ComesIn : Type 0 where
   pub calls : (p : ℕ) (e : Happening) (g : ℕ) → (k : ℕ) × (x : ℕ) × (k ≤ 3) × (callFor p e g ≡ event p k x g) × (happened k x ≡ e)
   pub trails : (p : ℕ) (e : Happening) (g i : ℕ) (t : Trail) → trailAfter p (callFor p e g) 0 i t ≡ longer (numbered e g) t
 

@@ -29,8 +29,9 @@ use Rattle.meaning.specs.declared.Event.{Event}
 use Rattle.meaning.specs.declared.Happening.{Happening}
 use Rattle.meaning.specs.declared.Happening.the-variants.{Allow, Deny, Given, Withdrawn}
 use Rattle.meaning.specs.Events.{isReply, Reply}
-use Rattle.meaning.specs.States.{Numbered, numbered, PossibleIn}
-use Rattle.calls.specs.Calls.{Out, stays, isState, happened, openOf, eventOf, decideOf, forgetOf}
+use Rattle.meaning.specs.States.{Numbered, numbered, PossibleIn, isState}
+use Rattle.meaning.specs.Kinds.{happened}
+use Rattle.calls.specs.Calls.{Out, stays, openOf, eventOf, decideOf, forgetOf}
 
 pub data Call : Type 0 where
   opening : (n g : ℕ) → T (isState g) → Call

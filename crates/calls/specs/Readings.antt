@@ -18,8 +18,9 @@ use lib.Dec.{T}
 use lib.ListN.{length}
 use Rattle.roles.specs.Sets.{setOf}
 use Rattle.meaning.specs.Rows.{Row, blank}
+use Rattle.meaning.specs.States.{isState}
 use Rattle.area.specs.State.{State, inPolicy, GoodState, isBlank, rowFor, stateOf, areaOf}
-use Rattle.calls.specs.Calls.{stays, writes, valid, isState, openOf, eventOf, decideOf}
+use Rattle.calls.specs.Calls.{stays, writes, valid, openOf, eventOf, decideOf}
 use Rattle.calls.specs.Histories.{Call, event, ask, forget, outOf, afterCalls}
 
 abbrev pub deny : List ℕ → ℕ → Call

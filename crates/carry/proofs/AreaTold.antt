@@ -18,10 +18,12 @@ use Rattle.meaning.specs.Rows.{Row, blank, Good, mostOpens, fits, step, contrad
 use Rattle.meaning.proofs.Answers.{fits-law}
 use Rattle.meaning.proofs.Kept.{blank-good}
 use Rattle.meaning.proofs.Theorems.{settle-law, step-good}
+use Rattle.meaning.specs.States.{isState}
+use Rattle.meaning.specs.Kinds.{happened}
 use Rattle.area.specs.Layout.{mostRows}
 use Rattle.area.specs.State.{Entry, State, opened, withRows, isBlank, GoodRow, GoodState, areaOf, rowFor, put, withRow}
 use Rattle.area.proofs.RowLaws.{isBlank-law, rowFor-put-same, put-again, put-not, hit-law, rows-first, next-good, next-absent, put-next}
-use Rattle.calls.specs.Calls.{Out, writes, valid, isState, fitsIn, happened}
+use Rattle.calls.specs.Calls.{Out, writes, valid, fitsIn}
 use Rattle.calls.specs.Histories.{outOf, callFor, callOf}
 use Rattle.calls.proofs.CallLaws.{valid-law, fitsIn-over, fitsIn-room, eventOn, event-recorded}
 use Rattle.calls.proofs.Outcomes.{put-state, event-is}

@@ -9,6 +9,7 @@ pub mod Verdicts
 pub mod Answers
 pub mod Trails
 pub mod States
+pub mod KindLaws
 pub mod Canonical
 pub mod Singles
 pub mod Theorems

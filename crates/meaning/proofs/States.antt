@@ -2,16 +2,17 @@
 use mathlib.Core.Path.{_≡_, refl, sym, ap, _∙_, subst, subst⁻¹}
 use mathlib.Core.Bool.{Bool, true, false, not, cond, _&&_}
 use mathlib.Core.List.{List, [], _∷_, _++_}
-use mathlib.Core.Logic.{_↔_}
+use mathlib.Core.Logic.{_↔_, _⊎_, inl, inr, ⊎-elim}
 use Prim.Native.Nat.{ℕ, zero, suc, _≤_, _<_}
 use native.Mathlib.Decide.{ℕ-discrete}
 use native.Mathlib.Omega.{arith}
-use borrow.Author.Tests.{eq-eqb, ne-eqb, le-leb, lt-leb, lt-ltb}
-use lib.Dec.{T, eqb, leb, ltb, leb→le, le→leb, ltb→lt}
+use borrow.Author.Tests.{eq-eqb, ne-eqb, le-leb, lt-leb, lt-ltb, le-ltb}
+use lib.Dec.{T, T-not, not-T, eqb, leb, ltb, leb→le, le→leb, ltb→lt, lt→ltb, nleb→lt}
+use Rattle.roles.proofs.Tests.{T?, T-or, T-true, T-false}
 use Rattle.meaning.specs.declared.Happening.{Happening}
 use Rattle.meaning.specs.declared.Happening.the-variants.{Allow, Deny, Given, Withdrawn}
-use Rattle.meaning.specs.Events.{agrees, after, isReply, Becomes, HolderSet, Possible}
-use Rattle.meaning.specs.States.{Numbered, happenings, became, Moves, TrueIn, PossibleIn, follows, Timely}
+use Rattle.meaning.specs.Events.{agrees, after, isReply, Reply, Becomes, HolderSet, Possible}
+use Rattle.meaning.specs.States.{Numbered, happenings, became, Moves, TrueIn, PossibleIn, isState, due, isLate, isAhead, Timing, follows, Timely}
 
 -- a reply changes nothing, an update agrees with every holder set
 reply-stays : (e : Happening) (h : ℕ) → isReply e ≡ true → after e h ≡ h
@@ -176,3 +177,61 @@ timely-then g (f ∷ t) G e y k = (y .0, timely-then (f .state) t G e (y .1) k)
 pub happenings-then : (t : List Numbered) (e : Numbered) → happenings (t ++ e ∷ []) ≡ happenings t ++ e .happening ∷ []
 happenings-then [] e = refl
 happenings-then (f ∷ t) e = ap (λ (l : List Happening). f .happening ∷ l) (happenings-then t e)
+
+-- ---- which events count
+
+module _ (e : Happening) (i g : ℕ) where
+  pub due-counts : isLate e i g ≡ false → isAhead e i g ≡ false → (g ≡ due e i) × T (isState g)
+  due-counts t a =
+      let x : ¬ (g < due e i) = λ u. let z : _≡_ {A = ℕ} 0 1 = cc (lt-ltb g (due e i) u) in omega arith in
+      let y : ¬ (due e i < g) = λ u. T-not (isAhead e i g) (subst⁻¹ (λ (b : Bool). T (not b)) a tt) (T-or (ltb (due e i) g) (not (isState g)) .1 (inl (subst⁻¹ T (lt-ltb (due e i) g u) tt))) in
+      let s : T (isState g) = ⊎-elim (λ u. u) (λ u. absurd (T-not (isAhead e i g) (subst⁻¹ (λ (b : Bool). T (not b)) a tt) (T-or (ltb (due e i) g) (not (isState g)) .1 (inr u)))) (T? (isState g)) in
+      (omega (arith, x, y), s)
+
+  pub due-not-late : g ≡ due e i → isLate e i g ≡ false
+  due-not-late q = le-ltb g (due e i) (omega arith)
+
+  pub due-not-ahead : g ≡ due e i → T (isState g) → isAhead e i g ≡ false
+  due-not-ahead q s = rw (le-ltb (due e i) g (omega arith), T-true (isState g) s)
+
+pub due-follows : (e : Numbered) (i : ℕ) → e .state ≡ due (e .happening) i → T (follows i e)
+due-follows e i t = go (isReply (e .happening)) t
+  where
+    go : (b : Bool) → e .state ≡ cond b i (suc i) → T (cond b (leb i (e .state)) (ltb i (e .state)))
+    go true q = le→leb i (e .state) (omega arith)
+    go false q = lt→ltb i (e .state) (omega arith)
+
+pub due-later : (e : Happening) (i : ℕ) → i ≤ due e i
+due-later e i = go (isReply e)
+  where
+    go : (b : Bool) → i ≤ cond b i (suc i)
+    go true = omega arith
+    go false = omega arith
+
+-- a reply is held against the state itself, an update against the next one
+module _ (e : Happening) (i g : ℕ) where
+  no-state : T (not (isState g)) ↔ (4294967295 < g)
+  no-state = ((λ t. nleb→lt g 4294967295 t), λ h. not-T (isState g) (λ t. let u : g ≤ 4294967295 = leb→le g 4294967295 t in omega arith))
+
+  late-by : (d : ℕ) → due e i ≡ d → T (isLate e i g) ↔ (g < d)
+  late-by d q = rw q (ltb→lt g d, lt→ltb g d)
+
+  ahead-by : (d : ℕ) → due e i ≡ d → T (isAhead e i g) ↔ ((d < g) ⊎ (4294967295 < g))
+  ahead-by d q = rw q (
+    (λ t. ⊎-elim (λ u. inl (ltb→lt d g u)) (λ u. inr (no-state .0 u)) (T-or (ltb d g) (not (isState g)) .0 t)),
+    λ a. T-or (ltb d g) (not (isState g)) .1 (⊎-elim (λ u. inl (lt→ltb d g u)) (λ u. inr (no-state .1 u)) a),
+  )
+
+due-reply : (e : Happening) (i : ℕ) → Reply e → due e i ≡ i
+due-reply e i r = rw (T-true (isReply e) r)
+
+due-update : (e : Happening) (i : ℕ) → ¬ (Reply e) → due e i ≡ suc i
+due-update e i n = rw (T-false (isReply e) (not-T (isReply e) n))
+
+pub timing : Timing
+timing = record {
+  reply-late = λ e r i g. late-by e i g i (due-reply e i r);
+  reply-ahead = λ e r i g. ahead-by e i g i (due-reply e i r);
+  update-late = λ e n i g. let q = late-by e i g (suc i) (due-update e i n) in ((λ t. let h = q .0 t in omega arith), (λ h. q .1 (omega arith)));
+  update-ahead = λ e n i g. ahead-by e i g (suc i) (due-update e i n);
+}

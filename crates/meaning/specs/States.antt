@@ -5,15 +5,20 @@
 --     Moves g t f          f has a holder set for each policy state; from state g on it changes by the trail's updates alone, each at its number
 --     TrueIn t f           every reply of the trail agrees with the holder set of the state that it names
 --     PossibleIn n g t G   the possible holder sets of state G, where the trail starts in state g: those of some such f, whatever it has in state g
+--     isState g            g is a policy state, 0 to 4,294,967,295
+--     due e i              the state in which the event e counts where the present one is i: a reply in that state, an update in the next
+--     isLate, isAhead e i g    it names a state g before that one; after it
+--     Timing               so a reply counts in the present state alone, and an update in the one above it
 --     follows g e          the number of e fits behind state g: a reply's is not below it, an update's above it
 --     Timely g t G         the numbers of the trail lie one behind the other between the states g and G
 use mathlib.Core.Path.{_≡_}
-use mathlib.Core.Bool.{Bool, not, cond, _&&_}
+use mathlib.Core.Bool.{Bool, not, cond, _&&_, _||_}
 use mathlib.Core.List.{List, [], _∷_}
-use Prim.Native.Nat.{ℕ, suc, _≤_}
+use mathlib.Core.Logic.{_↔_, _⊎_}
+use Prim.Native.Nat.{ℕ, suc, _≤_, _<_}
 use lib.Dec.{T, eqb, leb, ltb}
 use Rattle.meaning.specs.declared.Happening.{Happening}
-use Rattle.meaning.specs.Events.{agrees, after, isReply, HolderSet}
+use Rattle.meaning.specs.Events.{lastPolicyState, agrees, after, isReply, Reply, HolderSet}
 
 pub record Numbered : Type 0 where
   pub happening : Happening
@@ -40,6 +45,29 @@ TrueIn (e ∷ t) f = T (agrees (e .happening) (f (e .state))) × TrueIn t f
 
 abbrev pub PossibleIn : ℕ → ℕ → List Numbered → ℕ → ℕ → Type 0
 PossibleIn n g t G h = (f : ℕ → ℕ) × HolderSet n (f g) × Moves g t f × TrueIn t f × (f G ≡ h)
+
+-- ---- which events count
+
+abbrev pub isState : ℕ → Bool
+isState g = leb g lastPolicyState
+
+abbrev pub due : Happening → ℕ → ℕ
+due e i = cond (isReply e) i (suc i)
+
+abbrev pub isLate : Happening → ℕ → ℕ → Bool
+isLate e i g = ltb g (due e i)
+
+-- a number that is no policy state is after them all
+abbrev pub isAhead : Happening → ℕ → ℕ → Bool
+isAhead e i g = ltb (due e i) g || not (isState g)
+
+pub record Timing : Type 0 where
+  pub reply-late : (e : Happening) → Reply e → (i g : ℕ) → T (isLate e i g) ↔ (g < i)
+  pub reply-ahead : (e : Happening) → Reply e → (i g : ℕ) → T (isAhead e i g) ↔ ((i < g) ⊎ (4294967295 < g))
+  pub update-late : (e : Happening) → ¬ (Reply e) → (i g : ℕ) → T (isLate e i g) ↔ (g ≤ i)
+  pub update-ahead : (e : Happening) → ¬ (Reply e) → (i g : ℕ) → T (isAhead e i g) ↔ ((suc i < g) ⊎ (4294967295 < g))
+
+-- ---- the numbers of a trail
 
 abbrev pub follows : ℕ → Numbered → Bool
 follows g e = cond (isReply (e .happening)) (leb g (e .state)) (ltb g (e .state))

@@ -9,11 +9,13 @@ use lib.Dec.{T}
 use native.Mathlib.Omega.{arith}
 use Rattle.meaning.specs.declared.Happening.{Happening}
 use Rattle.meaning.specs.Events.{known, lastPolicyState}
+use Rattle.meaning.specs.States.{due}
+use Rattle.meaning.specs.Kinds.{happened}
 use Rattle.area.specs.Layout.{goodBytes}
 use Rattle.area.specs.State.{stateOf}
 use Rattle.area.proofs.Bytes.{good-state}
 use Rattle.table.proofs.RowWords.{sound}
-use Rattle.calls.specs.Calls.{valid, happened, due, eventIn}
+use Rattle.calls.specs.Calls.{valid, eventIn}
 use Rattle.calls.specs.Answers.{Gives}
 use Rattle.cache.proofs.Calling.{is-true, is-valid, not-valid, roles-few}
 use Rattle.cache.proofs.Fronts.{event-1, event-3, event-5, event-4, event-13, event-14, event-go}

@@ -1,8 +1,8 @@
 -- `cache::happened` meets its contract. Assumes nothing.
 use mathlib.Core.Path.{sym, ap}
 use Prim.Native.Nat.{ℕ}
-use Rattle.calls.specs.Calls.{happened}
-use Rattle.calls.proofs.CallLaws.{given-kind}
+use Rattle.meaning.specs.Kinds.{happened}
+use Rattle.meaning.proofs.KindLaws.{given-kind}
 use Rattle.cache.proofs.happened.Statement.{statement}
 use Rattle.cache.proofs.happened.Tie as tie
 
