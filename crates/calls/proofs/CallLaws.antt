@@ -22,11 +22,11 @@ use Rattle.meaning.proofs.KindLaws.{reply-kind}
 use Rattle.meaning.proofs.Answers.{settle-contradicts, settle-records, settle-overflows}
 use Rattle.meaning.proofs.Theorems.{ask-some, ask-none, ask-most}
 use Rattle.meaning.specs.States.{isLate, isAhead}
-use Rattle.meaning.specs.Kinds.{lastKind, happened}
+use Rattle.meaning.specs.Kinds.{happened}
 use Rattle.area.specs.Layout.{mostRows, areaBytes, goodBytes}
 use Rattle.area.specs.State.{State, opened, inPolicy, isBlank, rowFor, withRow, stateOf}
 use Rattle.area.proofs.Bytes.{good-state}
-use Rattle.calls.specs.Calls.{Out, stays, writes, valid, fitsIn, areaRefusals, settledIn, eventIn, eventOf, openOf, decideOf, forgetOf}
+use Rattle.calls.specs.Calls.{Out, stays, writes, valid, fitsIn, areaRefusals, settledIn, eventIn, eventOf, openOf, decideOf, forgetOf, lastKind}
 
 pub valid-law : (p : ℕ) → T (valid p) ↔ ((1 ≤ p) × (p ≤ lastPermission))
 valid-law p = (

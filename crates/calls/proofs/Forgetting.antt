@@ -9,13 +9,13 @@ use Rattle.meaning.specs.declared.Happening.{Happening}
 use Rattle.meaning.specs.Events.{known, isReply, lastPolicyState}
 use Rattle.meaning.specs.Rows.{Row, blank, contradicts, step}
 use Rattle.meaning.specs.States.{isState, isLate, isAhead}
-use Rattle.meaning.specs.Kinds.{lastKind, happened}
+use Rattle.meaning.specs.Kinds.{happened}
 use Rattle.meaning.proofs.States.{due-counts}
 use Rattle.area.specs.Layout.{goodBytes}
 use Rattle.area.specs.State.{State, Entry, withRows, inPolicy, GoodState, isBlank, rowFor, withRow, stateOf, areaOf}
 use Rattle.area.proofs.RowLaws.{Hit, hit-law, put-not, rowFor-put-same}
 use Rattle.area.proofs.Bytes.{area-state, good-state, good-area}
-use Rattle.calls.specs.Calls.{Out, stays, writes, valid, fitsIn, eventIn, eventOf, forgetOf}
+use Rattle.calls.specs.Calls.{Out, stays, writes, valid, fitsIn, eventIn, eventOf, forgetOf, lastKind}
 use Rattle.calls.specs.Demands as demands
 use Rattle.calls.proofs.CallLaws.{event-in, event-contradicts, event-unfit, event-recorded, event-bad-area, event-no-permission, event-bad-kind, event-unknown, event-late, event-ahead, event-counts, forget-bad-area, forget-no-permission, forget-forgets}
 use Rattle.calls.proofs.Outcomes.{drop-state, policy-state}

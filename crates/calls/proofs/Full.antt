@@ -18,11 +18,11 @@ use Rattle.meaning.proofs.Trails.{possible-then}
 use Rattle.meaning.proofs.States.{possible-in, timely-later, timely-then, happenings-then, due-follows, due-later}
 use Rattle.meaning.proofs.Verdicts.{largest, largest-left}
 use Rattle.meaning.proofs.Theorems.{step-leaves, contradicts-law, step-good, canonical}
-use Rattle.meaning.specs.Kinds.{lastKind, happened}
+use Rattle.meaning.specs.Kinds.{happened}
 use Rattle.area.specs.Layout.{mostRows}
 use Rattle.area.specs.State.{State, Entry, inPolicy, GoodState, isBlank, rowFor, put, withRow, areaOf}
 use Rattle.area.proofs.RowLaws.{hit-law, hit?, rowFor-good, rowFor-few, rowFor-put-same, rowFor-put-other, put-good, length-put-new, rows-ext}
-use Rattle.calls.specs.Calls.{Out, stays, writes, valid, fitsIn, eventOf}
+use Rattle.calls.specs.Calls.{Out, stays, writes, valid, fitsIn, eventOf, lastKind}
 use Rattle.calls.specs.Histories.{Trail, longer, Past, roles, policy, trail, PossibleOn}
 use Rattle.calls.specs.Demands as demands
 use Rattle.calls.proofs.CallLaws.{valid-law, fitsIn-policy, fitsIn-over, fitsIn-blank, fitsIn-room, eventOn, event-contradicts, event-unfit, event-recorded, unfit-answer}

@@ -20,11 +20,11 @@ use Rattle.meaning.proofs.Answers.{fits-law}
 use Rattle.meaning.proofs.States.{timing}
 use Rattle.meaning.proofs.Theorems.{one-of-three}
 use Rattle.meaning.specs.States.{isLate, isAhead}
-use Rattle.meaning.specs.Kinds.{lastKind, happened}
+use Rattle.meaning.specs.Kinds.{happened}
 use Rattle.meaning.proofs.KindLaws.{reply-kind, roles-kind}
 use Rattle.area.specs.Layout.{mostRows, areaBytes, goodBytes}
 use Rattle.area.specs.State.{State, opened, inPolicy, isBlank, rowFor, withRow, stateOf}
-use Rattle.calls.specs.Calls.{Out, stays, writes, valid, fitsIn, openRefusals, areaRefusals, eventRefusals, eventOf, openOf, decideOf, forgetOf}
+use Rattle.calls.specs.Calls.{Out, stays, writes, valid, fitsIn, openRefusals, areaRefusals, eventRefusals, eventOf, openOf, decideOf, forgetOf, lastKind}
 use Rattle.calls.specs.Histories.{outOf}
 use Rattle.calls.specs.Demands.{OnGrounds, IsRecorded, areaGrounds, Unknown, Late, Ahead, NoPlace, noRoom, eventGrounds, Demand1}
 use Rattle.calls.proofs.CallLaws.{valid-law, fitsIn-law, fitsIn-policy, fitsIn-over, fitsIn-blank, fitsIn-room, eventOn, event-in, event-contradicts, event-unfit, event-recorded}

@@ -19,12 +19,12 @@ use Rattle.meaning.proofs.Kept.{blank-good, step-good}
 use Rattle.meaning.proofs.Trails.{blank-leaves}
 use Rattle.meaning.proofs.States.{happenings-then, due-counts}
 use Rattle.meaning.proofs.Theorems.{canonical}
-use Rattle.meaning.specs.Kinds.{lastKind, happened}
+use Rattle.meaning.specs.Kinds.{happened}
 use Rattle.area.specs.Layout.{mostRows, areaBytes, goodBytes}
 use Rattle.area.specs.State.{State, inPolicy, GoodState, isBlank, rowFor, withRow, areaOf}
 use Rattle.area.proofs.RowLaws.{isBlank-law, rowFor-good}
 use Rattle.area.proofs.Bytes.{length-area}
-use Rattle.calls.specs.Calls.{Out, valid, fitsIn, eventOf, openOf, forgetOf}
+use Rattle.calls.specs.Calls.{Out, valid, fitsIn, eventOf, openOf, forgetOf, lastKind}
 use Rattle.calls.specs.Histories.{Call, opening, event, ask, forget, outOf, Trail, trailOn, trailAfter, rolesAfter, policyOn, policyAfter, Past, called, area, answerTo, roles, policy, trail}
 use Rattle.calls.specs.Demands as demands
 use Rattle.calls.proofs.CallLaws.{open-bad-count, open-recorded, fitsIn-law, fitsIn-policy, eventOn, event-contradicts, event-unfit, event-recorded, event-no-permission, event-bad-kind, event-unknown, event-late, event-ahead, unfit-answer, forget-no-permission, forget-forgets}

@@ -13,13 +13,13 @@ use Rattle.meaning.specs.States.{Numbered, numbered, isState, due, isLate, isAh
 use Rattle.meaning.specs.Rows.{Row, blank, Good, fits, contradicts, step, settle, decide}
 use Rattle.meaning.proofs.Kept.{step-good}
 use Rattle.meaning.proofs.Answers.{settle-law, fits-law}
-use Rattle.meaning.specs.Kinds.{lastKind, happened}
+use Rattle.meaning.specs.Kinds.{happened}
 use Rattle.meaning.proofs.States.{due-counts, due-not-late, due-not-ahead}
 use Rattle.area.specs.Layout.{goodBytes}
 use Rattle.area.specs.State.{State, inPolicy, GoodState, rowFor, withRow, stateOf, areaOf}
 use Rattle.area.proofs.RowLaws.{rowFor-good, put-good, put-most}
 use Rattle.area.proofs.Bytes.{area-good, area-state}
-use Rattle.calls.specs.Calls.{Out, stays, writes, valid, fitsIn, eventOf, decideOf, forgetOf}
+use Rattle.calls.specs.Calls.{Out, stays, writes, valid, fitsIn, eventOf, decideOf, forgetOf, lastKind}
 use Rattle.calls.proofs.CallLaws.{valid-law, fitsIn-law, eventOn, event-in, event-contradicts, event-unfit, event-recorded, event-no-permission, event-bad-kind, event-unknown, event-late, event-ahead, event-counts, decide-decides, forget-no-permission, forget-forgets}
 
 -- ---- states with another row

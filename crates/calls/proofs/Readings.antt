@@ -20,14 +20,14 @@ use Rattle.meaning.proofs.Answers.{contradicts-reply, Case, refused, taken, no-
 use Rattle.meaning.proofs.Theorems.{settle-good, settle-fits}
 use Rattle.meaning.proofs.Kept.{blank-good}
 use Rattle.meaning.specs.States.{isState, due, isLate, isAhead}
-use Rattle.meaning.specs.Kinds.{lastKind, happened}
+use Rattle.meaning.specs.Kinds.{happened}
 use Rattle.meaning.proofs.States.{due-counts}
 use Rattle.area.specs.Layout.{mostRows}
 use Rattle.area.specs.State as states
 use Rattle.area.specs.State.{State, Entry, opened, withRows, inPolicy, GoodState, isBlank, rowFor, withRow, stateOf, areaOf}
 use Rattle.area.proofs.Bytes.{area-state}
 use Rattle.area.proofs.RowLaws.{isBlank-law, Hit, hit-law, put-not, rowFor-put-same}
-use Rattle.calls.specs.Calls.{Out, stays, writes, valid, fitsIn, settledIn, eventOf, openOf, decideOf}
+use Rattle.calls.specs.Calls.{Out, stays, writes, valid, fitsIn, settledIn, eventOf, openOf, decideOf, lastKind}
 use Rattle.calls.specs.Histories.{Call, opening, event, ask, forget, outOf, afterCalls}
 use Rattle.calls.specs.Readings.{fresh, answers, Answered, Kept, Asks, NoRowIn, Readings}
 use Rattle.calls.proofs.CallLaws.{open-law, fitsIn-blank, fitsIn-room, fitsIn-none, eventOn, event-contradicts, event-unfit, event-recorded, event-late, event-ahead, forget-forgets}

@@ -4,6 +4,7 @@
 --     valid p               p is a permission, 1 to 4,294,967,295
 --     fitsIn s p w          w fits as the row of p: at most 15 open sets, and where it would be a new row, fewer than 128 are used
 --     openRefusals, areaRefusals    the refusals of open, those that every other call begins with
+--     lastKind              kinds are 0 to this one
 --     eventRefusals         the refusals of an event before its row is looked at
 --     settledIn l s p t     t is the answer to an event on the row of p: 0 and 8 put the row in its place, 6 and 7 leave every byte
 --     eventIn l p e g       an event of known roles that counts on a good area, whose policy state is then the one that it names
@@ -19,7 +20,7 @@ use Rattle.refusals.specs.Refusals.{Refusal, refusal, refuse}
 use Rattle.meaning.specs.declared.Happening.{Happening}
 use Rattle.meaning.specs.Events.{known, lastPermission}
 use Rattle.meaning.specs.States.{isLate, isAhead}
-use Rattle.meaning.specs.Kinds.{lastKind, happened}
+use Rattle.meaning.specs.Kinds.{happened}
 use Rattle.meaning.specs.Rows.{Row, blank, fits, Settled, settle, Decided, bare, decide}
 use Rattle.area.specs.Layout.{mostRows, areaBytes, goodBytes}
 use Rattle.area.specs.State.{State, opened, inPolicy, isBlank, rowFor, withRow, stateOf, areaOf}
@@ -55,7 +56,10 @@ areaRefusals l p rs = refusal 1 (not (goodBytes l)) ∷ refusal 3 (not (valid p)
 
 -- ---- events
 
--- a kind that is none, an unknown role, a state too early, a state too late
+abbrev pub lastKind : ℕ
+lastKind = 3
+
+-- a kind that is none, an unknown role, late, ahead
 abbrev pub eventRefusals : List ℕ → ℕ → ℕ → Happening → ℕ → List Refusal
 eventRefusals l p k e g =
     areaRefusals l p (

@@ -1,5 +1,4 @@
 -- How an event is told by two numbers, a kind and a number beside it.
---     lastKind             kinds are 0 to this one
 --     happened k x         what happened, as kind and number say it
 --     Kinds                what each kind says of the number beside it
 use mathlib.Core.Path.{_≡_}
@@ -9,9 +8,6 @@ use lib.Dec.{eqb}
 use Rattle.roles.specs.declared.RoleSet.{RoleSet}
 use Rattle.meaning.specs.declared.Happening.{Happening}
 use Rattle.meaning.specs.declared.Happening.the-variants.{Allow, Deny, Given, Withdrawn}
-
-abbrev pub lastKind : ℕ
-lastKind = 3
 
 -- kind 0 is deny and 1 allow, and the number a set; 2 is withdrawn and 3 given, and the number a role; what is above 3 is refused before
 unfoldable pub happened : ℕ → ℕ → Happening
