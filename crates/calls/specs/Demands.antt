@@ -14,7 +14,7 @@
 --     ComesIn                the kind and number by which each event comes in, and that it is on the trail
 --     InTime                 over every past the recorded events name states one behind the other, up to the area's own
 --     Demand2                over every past decide says what the possible holder sets of the present policy state force
---     AsItCame               so recorded, a reply is also true as it comes: the possible holder sets are those of the trail as document 01 reads it
+--     AsItCame               so recorded, a reply is also true as it comes: the possible holder sets are those that the trail leaves, event by event
 --     Whom                   with 12 it gives the one role to ask about; exactly with any other answer 64, on any bytes
 --     About q c              the call c is about the permission q, as opening is about every one
 --     NoOther                a call about one permission never changes a decision about another
@@ -32,7 +32,7 @@
 --     Others                 a call about one permission changes an answer about another only so, or by making an event late or timely
 --     Demand3                areas reached from opening are equal exactly when they know the same
 --     BothRecorded           streams of the same events on two areas opened alike, every event answered 0 in both
---     Reordered              such streams of the same events, every one answered 0 in both, keep their order but for replies, and give equal areas
+--     Reordered              such streams keep their order, but for replies that pass each other, and give equal areas
 --     OneOutcome, OneDecision    any two outcomes that a call's contract allows are equal; so are any two of decide
 use mathlib.Core.Path.{_≡_}
 use mathlib.Core.Bool.{true, false, cond}
