@@ -6,7 +6,7 @@
 --     GoodRow, GoodRows, GoodState    the rules of a good area, as rules of what it holds
 --     content, body, header           the words of an entry of the contents, of a body, of the header
 --     pad n l, each f es   l in n places, zeros behind; f of each row, one after the other
---     areaOf s             the bytes of a state: contents first, then bodies, zeros behind them
+--     areaOf s             the bytes of a state: header, contents, bodies, zeros in what is unused
 --     stateOf l            the state that the bytes hold
 --     wordsOf, heldBy      the same two between a state and words
 --     entryAt, entriesFrom    the row of number i; so many rows from it on

@@ -65,10 +65,10 @@ never-cross false b e f n x y z u = let w = u refl in omega arith
 module _ (l m : List ℕ) (n g : ℕ) (es fs : List Event) (b : demands.BothRecorded l m n g es fs) where
   -- the two openings, and the two streams on them
   abbrev h : Past
-  h = opened l n g (b .small) (b .opened)
+  h = opened l n g (b .is-state) (b .opened)
 
   abbrev k : Past
-  k = opened m n g (b .small) (b .opened-too)
+  k = opened m n g (b .is-state) (b .opened-too)
 
   abbrev r : Rearranged es fs
   r = b .rearranged
@@ -126,7 +126,7 @@ unfolding area
 reordered = record {
   keeps-order = keeps-order;
   same-area = λ l m n g es fs b.
-      sym (after-area (calls es) (opened l n g (b .small) (b .opened)))
+      sym (after-area (calls es) (opened l n g (b .is-state) (b .opened)))
       ∙ same-area l m n g es fs b
-      ∙ after-area (calls fs) (opened m n g (b .small) (b .opened-too));
+      ∙ after-area (calls fs) (opened m n g (b .is-state) (b .opened-too));
 }

@@ -158,7 +158,7 @@ contradicted h p i x g c =
     let is-known : ¬ (demands.Unknown (stateOf a .roles) i x) = λ u. T-not (known (roles h) e) (unknown-event (roles h) i x .1 (subst (λ (m : ℕ). demands.Unknown m i x) (header h .0) u)) (c .roles-known) in
     let due-now : g ≡ due e (stateOf a .policy) = c .state ∙ ap (due e) (sym (header h .1)) in
     let not-late : ¬ (demands.Late i (stateOf a .policy) g) = λ u. subst T (due-not-late e (stateOf a .policy) g due-now) (late-event i x (stateOf a .policy) g .1 u) in
-    let not-ahead : ¬ (demands.Ahead i (stateOf a .policy) g) = λ u. subst T (due-not-ahead e (stateOf a .policy) g due-now (c .small)) (ahead-event i x (stateOf a .policy) g .1 u) in
+    let not-ahead : ¬ (demands.Ahead i (stateOf a .policy) g) = λ u. subst T (due-not-ahead e (stateOf a .policy) g due-now (c .is-state)) (ahead-event i x (stateOf a .policy) g .1 u) in
     let row : rowFor p (stateOf a .rows) ≡ rowAfter blank (told h p) = ap (λ (y : State). rowFor p (y .rows)) st ∙ k .rows p in
     let bad-kind : ¬ (3 < i) = λ u. let z = c .kind in omega arith in
     let six : (eventOf a p i x g .answer ≡ 6) ↔ T (contradicts e (rowFor p (stateOf a .rows))) =

@@ -17,6 +17,9 @@ demand-1 = grounds.demand-1
 pub forgetting : demands.Forgetting
 forgetting = forgets.forgetting
 
+pub moving : demands.Moving
+moving = forgets.moving
+
 pub header : demands.Header
 header = decisions.header
 

@@ -188,7 +188,7 @@ full h p i x g c =
     let kn : T (known (s .roles) f) = subst⁻¹ (λ (m : ℕ). T (known m f)) (k .same-roles) (c .roles-known) in
     let now : g ≡ due f (s .policy) = c .state ∙ ap (due f) (sym (k .same-policy)) in
     subst⁻¹ (λ (o : Out). demands.Said (roles h) p (demands.PossibleWith h p e) (o .answer) (demands.noRoom i))
-    (ap (λ (l : List ℕ). eventOf l p i x g) (k .same-area) ∙ event-is s (k .good) p i x g (c .permission) (le→leb i lastKind (c .kind)) kn now (c .small))
+    (ap (λ (l : List ℕ). eventOf l p i x g) (k .same-area) ∙ event-is s (k .good) p i x g (c .permission) (le→leb i lastKind (c .kind)) kn now (c .is-state))
     (said h p (c .permission) e (c .roles-known) (c .state) (demands.noRoom i) (other-number (leb i 1) .0) (other-number (leb i 1) .1) (unfit-answer (areaOf s) (withRow (inPolicy g s) p blank) i x))
   where
     other-number : (r : Bool) → T (not (eqb 0 (cond r 7 8))) × T (not (eqb 6 (cond r 7 8)))

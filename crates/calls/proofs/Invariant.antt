@@ -14,7 +14,7 @@ use Rattle.roles.proofs.Tests.{T-and}
 use Rattle.roles.specs.Sets.{mostRoles}
 use Rattle.meaning.specs.declared.Happening.{Happening}
 use Rattle.meaning.specs.Events.{known, isReply, lastPolicyState}
-use Rattle.meaning.specs.States.{Numbered, numbered, happenings, Timely, isState, due}
+use Rattle.meaning.specs.States.{Numbered, numbered, happenings, Timely, isPolicyState, due}
 use Rattle.meaning.specs.Rows.{Row, blank, fits, step, settle, rowAfter, Recorded}
 use Rattle.meaning.proofs.States.{due-follows, due-later, timely-later, timely-then, happenings-then}
 use Rattle.meaning.specs.Kinds.{happened}
@@ -95,7 +95,7 @@ policyOn-forgotten e i r = rw r
 abbrev Belongs : ℕ → ℕ → Row → Trail → Type 0
 Belongs n i w t = Recorded n blank (happenings (t .events)) × (w ≡ rowAfter blank (happenings (t .events))) × Timely (t .since) (t .events) i
 
-fresh-holds : (n g : ℕ) → T (leb 1 n && leb n mostRoles) → T (isState g) → Holds (areaOf (states.opened n g)) n g (λ q. fresh g)
+fresh-holds : (n g : ℕ) → T (leb 1 n && leb n mostRoles) → T (isPolicyState g) → Holds (areaOf (states.opened n g)) n g (λ q. fresh g)
 unfolding rowFor rowAfter
 fresh-holds n g b c =
     let r = T-and (leb 1 n) (leb n mostRoles) .0 b in
@@ -170,7 +170,7 @@ module _ (l : List ℕ) (n i : ℕ) (t : ℕ → Trail) (k : Holds l n i t) wher
       Goal : Out → Type 0
       Goal o = Holds (o .area) n i (λ q. cond (eqb p q) (cond (eqb (o .answer) 0) (fresh i) (t q)) (t q))
 
-  open-holds : (m g : ℕ) → T (isState g) → Holds (openOf l m g .area) (cond (eqb (openOf l m g .answer) 0) m n) (cond (eqb (openOf l m g .answer) 0) g i) (λ q. cond (eqb (openOf l m g .answer) 0) (fresh g) (t q))
+  open-holds : (m g : ℕ) → T (isPolicyState g) → Holds (openOf l m g .area) (cond (eqb (openOf l m g .answer) 0) m n) (cond (eqb (openOf l m g .answer) 0) g i) (λ q. cond (eqb (openOf l m g .answer) 0) (fresh g) (t q))
   unfolding openOf
   open-holds m g c = go (not (eqb (length l) areaBytes)) (leb 1 m && leb m mostRoles) refl
     where

@@ -1,4 +1,4 @@
--- The laws of the calls' definitions and of histories, and the demands, gathered in `Demands`.
+-- The laws of the calls' definitions and of pasts, and the demands, gathered in `Demands`.
 pub mod CallLaws
 pub mod Outcomes
 pub mod Invariant

@@ -13,7 +13,7 @@ use Rattle.roles.specs.Sets.{mostRoles}
 use Rattle.roles.proofs.Tests.{T?, T-ext, T-true}
 use Rattle.meaning.specs.declared.Happening.{Happening}
 use Rattle.meaning.specs.Events.{known, isReply, HolderSet}
-use Rattle.meaning.specs.States.{Numbered, numbered, happenings, isState, due, isLate, isAhead}
+use Rattle.meaning.specs.States.{Numbered, numbered, happenings, isPolicyState, due, isLate, isAhead}
 use Rattle.meaning.specs.Rows.{Row, blank, Leaves, Good, fits, contradicts, step, rowAfter, Decided}
 use Rattle.meaning.proofs.Kept.{blank-good, step-good}
 use Rattle.meaning.proofs.Trails.{blank-leaves}
@@ -88,12 +88,12 @@ module _ (e : Happening) (i j g m : ℕ) (far : g + j ≡ m + i) where
       go true = T-ext (ltb g i) (ltb m j) ((λ t. lt→ltb m j (let h = ltb→lt g i t in omega arith)), (λ t. lt→ltb g i (let h = ltb→lt m j t in omega arith)))
       go false = T-ext (ltb g (suc i)) (ltb m (suc j)) ((λ t. lt→ltb m (suc j) (let h = ltb→lt g (suc i) t in omega arith)), (λ t. lt→ltb g (suc i) (let h = ltb→lt m (suc j) t in omega arith)))
 
-  same-ahead : T (isState g) → T (isState m) → isAhead e i g ≡ isAhead e j m
-  same-ahead a b = rw (T-true (isState g) a, T-true (isState m) b) (go (isReply e))
+  same-ahead : isPolicyState g ≡ isPolicyState m → isAhead e i g ≡ isAhead e j m
+  same-ahead s = rw s (go (isReply e))
     where
-      go : (r : Bool) → (ltb (cond r i (suc i)) g || false) ≡ (ltb (cond r j (suc j)) m || false)
-      go true = ap (λ (t : Bool). t || false) (T-ext (ltb i g) (ltb j m) ((λ t. lt→ltb j m (let h = ltb→lt i g t in omega arith)), (λ t. lt→ltb i g (let h = ltb→lt j m t in omega arith))))
-      go false = ap (λ (t : Bool). t || false) (T-ext (ltb (suc i) g) (ltb (suc j) m) ((λ t. lt→ltb (suc j) m (let h = ltb→lt (suc i) g t in omega arith)), (λ t. lt→ltb (suc i) g (let h = ltb→lt (suc j) m t in omega arith))))
+      go : (r : Bool) → (ltb (cond r i (suc i)) g || not (isPolicyState m)) ≡ (ltb (cond r j (suc j)) m || not (isPolicyState m))
+      go true = ap (λ (t : Bool). t || not (isPolicyState m)) (T-ext (ltb i g) (ltb j m) ((λ t. lt→ltb j m (let h = ltb→lt i g t in omega arith)), (λ t. lt→ltb i g (let h = ltb→lt j m t in omega arith))))
+      go false = ap (λ (t : Bool). t || not (isPolicyState m)) (T-ext (ltb (suc i) g) (ltb (suc j) m) ((λ t. lt→ltb (suc j) m (let h = ltb→lt (suc i) g t in omega arith)), (λ t. lt→ltb (suc i) g (let h = ltb→lt (suc j) m t in omega arith))))
 
 -- ---- a row that fits in one area and not in the other
 
@@ -189,14 +189,14 @@ module _ (h k : Past) (p i x : ℕ) (count : roles k ≡ roles h) (row : rowFor 
     no-room = r .no-room;
   }
 
-  events-far : (g j : ℕ) → T (isState g) → T (isState j) → g + policy k ≡ j + policy h
+  events-far : (g j : ℕ) → isPolicyState g ≡ isPolicyState j → g + policy k ≡ j + policy h
       → (answerTo k (event p i x j) ≡ answerTo h (event p i x g)) ⊎ (demands.TookRoom p h (event p i x g) k (event p i x j) ⊎ demands.TookRoom p k (event p i x j) h (event p i x g))
   unfolding answerBy
-  events-far g j sg sj far =
+  events-far g j same far =
       go (valid p) (leb i lastKind) (known (roles h) e) refl (isLate e (policy h) g) (isAhead e (policy h) g) (contradicts e u) refl (fitsIn (holds h .state) p (step e u)) refl (fitsIn (holds k .state) p (step e u)) refl
       (answer-of h g refl refl)
       (answer-of k j count row ∙ ap₂ {C = ℕ} (λ (t a : Bool). answerBy (valid p) (leb i lastKind) (known (roles h) e) t a (contradicts e u) (fitsIn (holds k .state) p (step e u)) (demands.noRoom i))
-      (sym (same-late e (policy h) (policy k) g j far)) (sym (same-ahead e (policy h) (policy k) g j far sg sj)))
+      (sym (same-late e (policy h) (policy k) g j far)) (sym (same-ahead e (policy h) (policy k) g j far same)))
     where
       go : (v b m : Bool) → known (roles h) e ≡ m → (t a c : Bool) → contradicts e u ≡ c → (f : Bool) → fitsIn (holds h .state) p (step e u) ≡ f → (f′ : Bool) → fitsIn (holds k .state) p (step e u) ≡ f′
           → answerTo h (event p i x g) ≡ answerBy v b m t a c f (demands.noRoom i) → answerTo k (event p i x j) ≡ answerBy v b m t a c f′ (demands.noRoom i)
@@ -308,10 +308,24 @@ moves h p (event q i y g) x =
 moves h p (ask q s) x = inl refl
 moves h p (forget q) x = inl refl
 
+module _ (h : Past) (p : ℕ) (c : Call) (d : ¬ (demands.About p c)) (i x g : ℕ) where
+  abbrev before : ℕ
+  before = answerTo h (event p i x g)
+
+  abbrev after : ℕ
+  after = answerTo (called h c) (event p i x g)
+
+  answers : (after ≡ before) ⊎ ((before ≡ 14) ⊎ ((after ≡ 13) ⊎ (demands.TookRoom p h (event p i x g) (called h c) (event p i x g) ⊎ demands.TookRoom p (called h c) (event p i x g) h (event p i x g))))
+  answers = ⊎-elim
+      (λ stayed. ⊎-elim inl (λ r. inr (inr (inr r))) (events-far h (called h c) p i x (other-roles h c p d) (other-row h c p d) g g refl (ap (λ (j : ℕ). g + j) stayed)))
+      (λ on. ⊎-elim inl (⊎-elim (λ r. inr (inr (inl (r .1)))) (λ r. inr (inl (r .1)))) (event-moved h (called h c) p i x (other-roles h c p d) (other-row h c p d) on g))
+      (moves h p c d)
+
 pub others : demands.Others
 others = record {
-  moves = moves;
+  answers = answers;
   calls = other-calls;
+  moves = moves;
   events = λ h p c d i x g j. events-far h (called h c) p i x (other-roles h c p d) (other-row h c p d) g j;
   late-or-timely = λ h p c d on i x g. event-moved h (called h c) p i x (other-roles h c p d) (other-row h c p d) on g;
 }

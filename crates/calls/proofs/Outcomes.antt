@@ -9,7 +9,7 @@ use Rattle.roles.specs.Sets.{allBelow, partOf}
 use Rattle.roles.proofs.Tests.{T?, T-true, T-false}
 use Rattle.meaning.specs.declared.Happening.{Happening}
 use Rattle.meaning.specs.Events.{known, isReply, lastPolicyState}
-use Rattle.meaning.specs.States.{Numbered, numbered, isState, due, isLate, isAhead}
+use Rattle.meaning.specs.States.{Numbered, numbered, isPolicyState, due, isLate, isAhead}
 use Rattle.meaning.specs.Rows.{Row, blank, Good, fits, contradicts, step, settle, decide}
 use Rattle.meaning.proofs.Kept.{step-good}
 use Rattle.meaning.proofs.Answers.{settle-law, fits-law}
@@ -52,7 +52,7 @@ module _ (s : State) (g : GoodState s) (p : ℕ) (v : T (valid p)) where
       }
 
 -- in another policy state it is as good
-pub policy-state : (s : State) → GoodState s → (i : ℕ) → T (isState i) → GoodState (inPolicy i s)
+pub policy-state : (s : State) → GoodState s → (i : ℕ) → T (isPolicyState i) → GoodState (inPolicy i s)
 policy-state s g i b = record { some-roles = g .some-roles; most-roles = g .most-roles; most-rows = g .most-rows; policy-small = leb→le i lastPolicyState b; good-rows = g .good-rows }
 
 -- ---- events
@@ -80,7 +80,7 @@ pub ahead-in : (s : State) → GoodState s → (e : Happening) (i : ℕ) → isA
 ahead-in s g e i = ap (λ (u : State). isAhead e (u .policy) i) (area-state s g)
 
 -- an event that is refused neither by 3 nor 5 nor 4, and is due
-pub event-is : (s : State) → GoodState s → (p k x i : ℕ) → T (valid p) → T (leb k lastKind) → T (known (s .roles) (happened k x)) → i ≡ due (happened k x) (s .policy) → T (isState i)
+pub event-is : (s : State) → GoodState s → (p k x i : ℕ) → T (valid p) → T (leb k lastKind) → T (known (s .roles) (happened k x)) → i ≡ due (happened k x) (s .policy) → T (isPolicyState i)
     → eventOf (areaOf s) p k x i ≡ eventOn (areaOf s) (inPolicy i s) p (happened k x) (rowFor p (s .rows))
 event-is s g p k x i v b kn t si =
     event-counts (areaOf s) p k x i (area-is-good s g) (T-true (valid p) v) (T-true (leb k lastKind) b) (known-in s g (happened k x) ∙ T-true (known (s .roles) (happened k x)) kn)
@@ -89,7 +89,7 @@ event-is s g p k x i v b kn t si =
     ∙ ap (λ (u : State). eventOn (areaOf s) (inPolicy i u) p (happened k x) (rowFor p (u .rows))) (area-state s g)
 
 module _ (s : State) (g : GoodState s) (p : ℕ) where
-  event-on : T (valid p) → (e : Happening) (i : ℕ) → T (known (s .roles) e) → i ≡ due e (s .policy) → T (isState i) → Outcome s p (numbered e i) (eventOn (areaOf s) (inPolicy i s) p e (rowFor p (s .rows)))
+  event-on : T (valid p) → (e : Happening) (i : ℕ) → T (known (s .roles) e) → i ≡ due e (s .policy) → T (isPolicyState i) → Outcome s p (numbered e i) (eventOn (areaOf s) (inPolicy i s) p e (rowFor p (s .rows)))
   event-on v e i kn t si = go (contradicts e w) refl (fitsIn s′ p (step e w)) refl
     where
       w : Row

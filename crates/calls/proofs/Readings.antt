@@ -19,7 +19,7 @@ use Rattle.meaning.specs.Lists.{any, keep, put, inOrder}
 use Rattle.meaning.proofs.Answers.{contradicts-reply, Case, refused, taken, no-room, dropped, case, settle-by}
 use Rattle.meaning.proofs.Theorems.{settle-good, settle-fits}
 use Rattle.meaning.proofs.Kept.{blank-good}
-use Rattle.meaning.specs.States.{isState, due, isLate, isAhead}
+use Rattle.meaning.specs.States.{isPolicyState, due, isLate, isAhead}
 use Rattle.meaning.specs.Kinds.{happened}
 use Rattle.meaning.proofs.States.{due-counts}
 use Rattle.area.specs.Layout.{mostRows}
@@ -104,13 +104,13 @@ module _ (s : State) (p : ℕ) (n : NoRowIn s p) where
         ∙ ap (λ (es : List Entry). writes 8 (withRows (inPolicy i s) es)) (put-not p blank (s .rows) miss refl)
 
 -- no state is above the last one
-never-due : (s : State) → GoodState s → s .policy ≡ 4294967295 → (p k r g : ℕ) → T (valid p) → T (leb k lastKind) → T (known (s .roles) (happened k r)) → isReply (happened k r) ≡ false → T (isState g)
+never-due : (s : State) → GoodState s → s .policy ≡ 4294967295 → (p k r g : ℕ) → T (valid p) → T (leb k lastKind) → T (known (s .roles) (happened k r)) → isReply (happened k r) ≡ false → T (isPolicyState g)
     → eventOf (areaOf s) p k r g ≡ stays 13 (areaOf s)
 never-due s good top p k r g v b kn u small =
     event-late (areaOf s) p k r g (area-is-good s good) (T-true (valid p) v) (T-true (leb k lastKind) b) (known-in s good (happened k r) ∙ T-true (known (s .roles) (happened k r)) kn)
     (late-in s good (happened k r) g ∙ rw u (lt-ltb g (suc (s .policy)) (let z : g ≤ 4294967295 = leb→le g lastPolicyState small in omega arith)))
 
-last-state : (s : State) → GoodState s → s .policy ≡ 4294967295 → (p r g : ℕ) → T (valid p) → r < s .roles → T (isState g)
+last-state : (s : State) → GoodState s → s .policy ≡ 4294967295 → (p r g : ℕ) → T (valid p) → r < s .roles → T (isPolicyState g)
     → (eventOf (areaOf s) p 2 r g ≡ stays 13 (areaOf s)) × (eventOf (areaOf s) p 3 r g ≡ stays 13 (areaOf s))
 unfolding happened known rolesIn
 last-state s good top p r g v few small =
@@ -155,7 +155,7 @@ module _ (i : ℕ) (w : Row) where
   unfolding fitsIn
   fits-fitsIn j v = rw (lt-ltb (length (only i w .rows)) mostRows few) (and-true (fits v))
 
-  only-good : T (isState i) → Sound w → GoodState (only i w)
+  only-good : T (isPolicyState i) → Sound w → GoodState (only i w)
   only-good b k =
       let g : GoodState (none i) = record { some-roles = omega arith; most-roles = omega arith; most-rows = omega arith; policy-small = leb→le i lastPolicyState b; good-rows = tt } in
       put-state (none i) g 5 tt w (k .good) (subst⁻¹ T (fitsIn-room (none i) 5 w (T-true (fits w) (k .fit)) (omega arith)) tt)
@@ -210,10 +210,10 @@ does (forget p) i w = seen 0 i blank
 -- the outcome o is what was seen, and leaves a sound row in a policy state
 record Does (o : Out) (d : Seen) : Type 0 where
   is : o ≡ writes (d .answer) (only (d .policy) (d .row))
-  small : T (isState (d .policy))
+  small : T (isPolicyState (d .policy))
   sound : Sound (d .row)
 
-module _ (i : ℕ) (b : T (isState i)) (w : Row) (k : Sound w) where
+module _ (i : ℕ) (b : T (isPolicyState i)) (w : Row) (k : Sound w) where
   row-there : (e : Happening) (g : ℕ) → eventOn (areaOf (only i w)) (inPolicy g (only i w)) 5 e (rowFor 5 (only i w .rows)) ≡ eventOn (areaOf (only i w)) (inPolicy g (only i w)) 5 e w
   row-there e g = ap (eventOn (areaOf (only i w)) (inPolicy g (only i w)) 5 e) (its-row i w)
 
@@ -286,10 +286,10 @@ left (c ∷ cs) i w = left cs (does c i w .policy) (does c i w .row)
 record Ran (cs : List Call) (i : ℕ) (w : Row) (l : List ℕ) : Type 0 where
   says : answers cs l ≡ told cs i w
   leaves : afterCalls cs l ≡ areaOf (only (left cs i w .policy) (left cs i w .row))
-  small : T (isState (left cs i w .policy))
+  small : T (isPolicyState (left cs i w .policy))
   sound : Sound (left cs i w .row)
 
-run : (cs : List Call) (i : ℕ) (w : Row) → T (isState i) → Sound w → T (allFine cs) → (l : List ℕ) → l ≡ areaOf (only i w) → Ran cs i w l
+run : (cs : List Call) (i : ℕ) (w : Row) → T (isPolicyState i) → Sound w → T (allFine cs) → (l : List ℕ) → l ≡ areaOf (only i w) → Ran cs i w l
 unfolding answers told left afterCalls allFine
 run [] i w b k f l e = record { says = refl; leaves = e; small = b; sound = k }
 run (c ∷ cs) i w b k f l e =

@@ -46,6 +46,7 @@ fitsIn s p w = fits w && (ltb (length (s .rows)) mostRows || (not (isBlank (rowF
 abbrev pub openRefusals : List ℕ → ℕ → List Refusal
 openRefusals l n = refusal 1 (not (eqb (length l) areaBytes)) ∷ refusal 2 (not (leb 1 n && leb n mostRoles)) ∷ []
 
+-- g has 32 bits wherever it comes from; a larger one would make a bad area
 unfoldable pub openOf : List ℕ → ℕ → ℕ → Out
 openOf l n g = refuse (openRefusals l n) (λ a. stays a l) (writes 0 (opened n g))
 

@@ -4,15 +4,16 @@
 --     areaGrounds            the grounds that all calls but open begin with
 --     Unknown n k x          the number beside the kind k says a role at or above n: as a set for kinds 0 and 1, else as a role
 --     Late k i g             an event of the kind k that names the state g is late on an area in state i: a reply below it, an update not above it
---     Ahead k i g            it is ahead: a reply above it, an update more than one above it; so is what is no policy state
+--     Ahead k i g            it is ahead: a reply above it, an update more than one above it; or it names no policy state, as the one behind the last
 --     NoPlace s p w          w does not fit as the row of p
 --     noRoom k               what an event of the kind k is answered that does not fit
 --     eventGrounds           the grounds of an event, in the order of Rules, Answers
 --     Demand1                any numbers and any bytes get an answer of the table, each refusal exactly on its ground
 --     NoRow l p, Forgetting  p has no row; so it is after 8 and after a forget
+--     Moving                 which policy state an event and a forget leave, on any bytes
 --     Header                 over every past the area has its role count and its policy state
 --     ComesIn                the kind and number by which each event comes in, and that it is on the trail
---     InTime                 over every past the recorded events name states one behind the other, up to the area's own
+--     InTime                 over every past the states that recorded events name never fall, updates rise, and none is above the area's own
 --     Demand2                over every past decide says what the possible holder sets of the present policy state force
 --     AsItCame               so recorded, a reply is also true as it comes: the possible holder sets are those that the trail leaves, event by event
 --     Whom                   with 12 it gives the one role to ask about; exactly with any other answer 64, on any bytes
@@ -26,10 +27,10 @@
 --                            exactly when nothing is possible of p, else b
 --     Full                   over every past 7 or 8 exactly when something is possible after the event and no area can say it
 --     NothingKnown, used h   every holder set is possible; how many rows are used
---     TookRoom p h d k e     d is recorded on h, and e, the same on k, does not fit: before d every holder set of p is possible, after it not, and 128
---                            rows are used on k alone
+--     TookRoom p h d k e     d is recorded on h, and e, the same event on k, its state as far from the area's, does not fit: before d every holder set
+--                            of p is possible, after it not, and 128 rows are used on k alone
 --     IsEvent c              the call c is an event
---     Others                 a call about one permission changes an answer about another only so, or by making an event late or timely
+--     Others                 a call about one permission changes the answer to an event about another by 13, by 14, or by the number of rows alone
 --     Demand3                areas reached from opening are equal exactly when they know the same
 --     BothRecorded           streams of the same events on two areas opened alike, every event answered 0 in both
 --     Reordered              such streams keep their order, but for replies that pass each other, and give equal areas
@@ -47,7 +48,7 @@ use Rattle.refusals.specs.Refusals.{Ground, ground, Exactly}
 use Rattle.meaning.specs.declared.Event.{Event}
 use Rattle.meaning.specs.declared.Happening.{Happening}
 use Rattle.meaning.specs.Events.{known, agrees, HolderSet, Possible, Verdict, Decides, AskAbout}
-use Rattle.meaning.specs.States.{Numbered, numbered, happenings, Timely, isState, due}
+use Rattle.meaning.specs.States.{Numbered, numbered, happenings, Timely, isPolicyState, due}
 use Rattle.meaning.specs.Rows as meaning
 use Rattle.meaning.specs.Rows.{Row, Leaves, contradicts, step}
 use Rattle.meaning.specs.Kinds.{happened}
@@ -59,7 +60,7 @@ use Rattle.calls.specs.declared.Decided.{Decided}
 use Rattle.calls.specs.Answers.{Gives, decidedOf}
 use Rattle.calls.specs.Histories.{Call, opening, event, ask, forget, outOf, Trail, longer, trailOn, trailAfter, Past, called, area, answerTo, roles, policy, trail, PossibleOn, PossibleAfter, callFor, calls, afterCalls, Rearranged, KeepsOrder, AllRecorded}
 
--- ---- demand 1: any numbers and any lent bytes get a numbered answer, and answers 1 to 7 leave the lent area as it came
+-- ---- demand 1: any numbers and any lent bytes get a numbered answer, and every answer but 0 and 8 leaves the lent area as it came
 
 pub record OnGrounds (l : List ℕ) (o : Out) (gs : List Ground) (otherwise : ℕ → Type 0) : Type 0 where
   pub exactly : Exactly (o .answer) gs otherwise
@@ -108,7 +109,7 @@ pub record Demand1 : Type 0 where
   pub open-answers : (l : List ℕ) (n g : ℕ) → OnGrounds l (openOf l n g) (ground 1 (length l ≢ 18456) ∷ ground 2 (¬ ((1 ≤ n) × (n ≤ 64))) ∷ []) IsRecorded
   pub event-answers : (l : List ℕ) (p k x g : ℕ) → OnGrounds l (eventOf l p k x g) (eventGrounds l p k x g) IsRecorded
   pub decide-answers : (l : List ℕ) (p s : ℕ) → Exactly (decideOf l p s .answer) (areaGrounds l p (ground 4 (2 ^ stateOf l .roles ≤ s) ∷ [])) Verdict
-  -- as a call of a history; decide itself is lent the area for reading
+  -- as a call of a past; decide itself is lent the area for reading
   pub decide-unchanged : (l : List ℕ) (p s : ℕ) → outOf (ask p s) l .area ≡ l
   pub forget-answers : (l : List ℕ) (p : ℕ) → OnGrounds l (forgetOf l p) (areaGrounds l p []) IsRecorded
 
@@ -122,6 +123,12 @@ pub record Forgetting : Type 0 where
   pub forget-gone : (l : List ℕ) (p : ℕ) → forgetOf l p .answer ≡ 0 → NoRow (forgetOf l p .area) p
   pub event-moves : (l : List ℕ) (p k x g : ℕ) → NoRow l p → eventOf l p k x g .answer ≡ 8 → eventOf l p k x g .area ≡ areaOf (inPolicy g (stateOf l))
   pub forget-unchanged : (l : List ℕ) → Bytes l → (p : ℕ) → NoRow l p → forgetOf l p .answer ≡ 0 → forgetOf l p .area ≡ l
+
+-- an update that is answered 0 or 8 leaves its own, a recorded reply and a forget the one that was there; by demand 1 a refusal leaves every byte
+pub record Moving : Type 0 where
+  pub update : (l : List ℕ) (p k x g : ℕ) → 1 < k → (eventOf l p k x g .answer ≡ 0) ⊎ (eventOf l p k x g .answer ≡ 8) → stateOf (eventOf l p k x g .area) .policy ≡ g
+  pub reply : (l : List ℕ) (p k x g : ℕ) → k ≤ 1 → eventOf l p k x g .answer ≡ 0 → stateOf (eventOf l p k x g .area) .policy ≡ stateOf l .policy
+  pub forget : (l : List ℕ) (p : ℕ) → forgetOf l p .answer ≡ 0 → stateOf (forgetOf l p .area) .policy ≡ stateOf l .policy
 
 abbrev pub Header : Type 0
 Header = (h : Past) → (stateOf (area h) .roles ≡ roles h) × (stateOf (area h) .policy ≡ policy h)
@@ -161,7 +168,7 @@ pub record Counts (h : Past) (p k x g : ℕ) : Type 0 where
   pub kind : k ≤ 3
   pub roles-known : T (known (roles h) (happened k x))
   pub state : g ≡ due (happened k x) (policy h)
-  pub small : T (isState g)
+  pub is-state : T (isPolicyState g)
 
 abbrev pub Contradicted : Type 0
 Contradicted = (h : Past) (p k x g : ℕ) → Counts h p k x g → (eventOf (area h) p k x g .answer ≡ 6) ↔ ((s : ℕ) → PossibleAfter h p s → ¬ (T (agrees (happened k x) s)))
@@ -207,11 +214,18 @@ IsEvent (ask p s) = ⊥
 IsEvent (forget p) = ⊥
 
 pub record Others : Type 0 where
+  -- the answer to an event is the same, or it was ahead, or it is late, or one of the two took the last room
+  pub answers : (h : Past) (p : ℕ) (c : Call) → ¬ (About p c) → (k x g : ℕ)
+      → (answerTo (called h c) (event p k x g) ≡ answerTo h (event p k x g))
+      ⊎ ((answerTo h (event p k x g) ≡ 14)
+      ⊎ ((answerTo (called h c) (event p k x g) ≡ 13)
+      ⊎ (TookRoom p h (event p k x g) (called h c) (event p k x g) ⊎ TookRoom p (called h c) (event p k x g) h (event p k x g))))
+  -- decide, forget and open are answered as before
+  pub calls : (h : Past) (p : ℕ) (c d : Call) → ¬ (About p c) → About p d → ¬ (IsEvent d) → answerTo (called h c) d ≡ answerTo h d
   -- the policy state stays or goes one on
   pub moves : (h : Past) (p : ℕ) (c : Call) → ¬ (About p c) → (policy (called h c) ≡ policy h) ⊎ (policy (called h c) ≡ suc (policy h))
-  pub calls : (h : Past) (p : ℕ) (c d : Call) → ¬ (About p c) → About p d → ¬ (IsEvent d) → answerTo (called h c) d ≡ answerTo h d
-  -- the same event, naming a state as far from the area's, where both are states
-  pub events : (h : Past) (p : ℕ) (c : Call) → ¬ (About p c) → (k x g j : ℕ) → T (isState g) → T (isState j) → g + policy (called h c) ≡ j + policy h
+  -- the same event, naming a state as far from the area's: the same number where that stayed, one more where it went on
+  pub events : (h : Past) (p : ℕ) (c : Call) → ¬ (About p c) → (k x g j : ℕ) → isPolicyState g ≡ isPolicyState j → g + policy (called h c) ≡ j + policy h
       → (answerTo (called h c) (event p k x j) ≡ answerTo h (event p k x g))
       ⊎ (TookRoom p h (event p k x g) (called h c) (event p k x j) ⊎ TookRoom p (called h c) (event p k x j) h (event p k x g))
   -- the same event, naming the same state, after the state has moved: it was due and is late, or it was ahead and is due
@@ -229,7 +243,7 @@ Demand3 = (h k : Past) → (area h ≡ area k)
 
 -- two streams of the same events, each on a fresh area of its own, every event answered 0
 pub record BothRecorded (l m : List ℕ) (n g : ℕ) (es fs : List Event) : Type 0 where
-  pub small : T (isState g)
+  pub is-state : T (isPolicyState g)
   pub opened : openOf l n g .answer ≡ 0
   pub opened-too : openOf m n g .answer ≡ 0
   pub rearranged : Rearranged es fs

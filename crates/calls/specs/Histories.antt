@@ -1,10 +1,10 @@
 -- Pasts of an area: an opening and calls one after another; and what they come to: the bytes, the role count, the policy state, and the trail of
 -- each permission, its events answered 0, in order.
 --     Call, outOf            a call with any numbers, an opening with a policy state; its answer and the bytes afterwards, without the role of a decision
---     Trail                  the policy state in which a trail starts, and its events, each with the state that it names
+--     Trail                  the policy state in which a trail starts, where any holder set is possible, and its events, each with the state that it names
 --     fresh g, longer e t    the empty trail that starts in state g; t with one event more
 --     trailOn q p e a t      the trail t of the permission q after an event e about p was answered a: one longer on 0, fresh on 8, else as it was
---     trailAfter q c a i t   the same after the call c was answered a, in the policy state i
+--     trailAfter q c a i t   the same after the call c was answered a; i is the policy state before it
 --     rolesAfter c a n       the role count n after it
 --     policyOn e a i         the policy state i after an event e was answered a: an update answered 0 or 8 brings its own
 --     policyAfter c a i      the same after the call c was answered a; an opening brings its own too
@@ -29,12 +29,12 @@ use Rattle.meaning.specs.declared.Event.{Event}
 use Rattle.meaning.specs.declared.Happening.{Happening}
 use Rattle.meaning.specs.declared.Happening.the-variants.{Allow, Deny, Given, Withdrawn}
 use Rattle.meaning.specs.Events.{isReply, Reply}
-use Rattle.meaning.specs.States.{Numbered, numbered, PossibleIn, isState}
+use Rattle.meaning.specs.States.{Numbered, numbered, PossibleIn, isPolicyState}
 use Rattle.meaning.specs.Kinds.{happened}
 use Rattle.calls.specs.Calls.{Out, stays, openOf, eventOf, decideOf, forgetOf}
 
 pub data Call : Type 0 where
-  opening : (n g : ℕ) → T (isState g) → Call
+  opening : (n g : ℕ) → T (isPolicyState g) → Call
   event : (p k x g : ℕ) → Call
   ask : (p s : ℕ) → Call
   forget : (p : ℕ) → Call
@@ -84,7 +84,7 @@ policyAfter (forget p) a i = i
 -- ---- pasts
 
 pub data Past : Type 0 where
-  opened : (l : List ℕ) (n g : ℕ) → T (isState g) → openOf l n g .answer ≡ 0 → Past
+  opened : (l : List ℕ) (n g : ℕ) → T (isPolicyState g) → openOf l n g .answer ≡ 0 → Past
   called : Past → Call → Past
 
 unfoldable pub area : Past → List ℕ

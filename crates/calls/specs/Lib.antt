@@ -1,4 +1,4 @@
--- The calls with their answers, histories of them, and what is demanded.
+-- The calls with their answers, pasts of them, and what is demanded.
 pub mod Calls
 pub mod Answers
 pub mod Histories

@@ -1,6 +1,6 @@
 -- Rules, Readings: those marked P, a forget, and the worked case of the Paper, section 3.4. Calls about permission 5 with plain numbers, on any
 -- area opened with the role count 8 in the policy state 0; sets are written by their roles.
---     deny, allow, withdraw, give, decide    the calls about permission 5; the number of an event is the policy state that it names
+--     deny, allow, withdraw, give, decide    the calls about permission 5; the last number of an event is the policy state that it names
 --     fresh l              the area l after such an opening
 --     answers cs l         what the calls answer, one after another on the area l
 --     Answered cs ns       after any opening the calls are answered by the numbers ns
@@ -18,7 +18,7 @@ use lib.Dec.{T}
 use lib.ListN.{length}
 use Rattle.roles.specs.Sets.{setOf}
 use Rattle.meaning.specs.Rows.{Row, blank}
-use Rattle.meaning.specs.States.{isState}
+use Rattle.meaning.specs.States.{isPolicyState}
 use Rattle.area.specs.State.{State, inPolicy, GoodState, isBlank, rowFor, stateOf, areaOf}
 use Rattle.calls.specs.Calls.{stays, writes, valid, openOf, eventOf, decideOf}
 use Rattle.calls.specs.Histories.{Call, event, ask, forget, outOf, afterCalls}
@@ -72,12 +72,12 @@ pub record Readings : Type 0 where
   pub no-row-role-0 : (s : State) (p : ℕ) → NoRowIn s p → decideOf (areaOf s) p 1 ≡ record { answer = 12; role = 0 }
   pub allow-nobody : (s : State) → GoodState s → (p : ℕ) → T (valid p) → eventOf (areaOf s) p 1 0 (s .policy) ≡ stays 6 (areaOf s)
   pub deny-nobody : (s : State) (p : ℕ) → NoRowIn s p → eventOf (areaOf s) p 0 0 (s .policy) ≡ stays 0 (areaOf s)
-  -- with 128 rows: deny on 0 changes nothing; withdraw 0 moves the policy state, and no row
+  -- with 128 rows: deny on 0 changes nothing; withdraw 0 moves the policy state, and changes no row
   pub full-deny : (s : State) (p : ℕ) → NoRowIn s p → length (s .rows) ≡ 128 → eventOf (areaOf s) p 0 1 (s .policy) ≡ stays 7 (areaOf s)
   pub full-withdraw : (s : State) (p : ℕ) → NoRowIn s p → length (s .rows) ≡ 128 → s .policy < 4294967295
       → eventOf (areaOf s) p 2 0 (suc (s .policy)) ≡ writes 8 (inPolicy (suc (s .policy)) s)
   -- in the last policy state no update counts any more
-  pub last-state : (s : State) → GoodState s → s .policy ≡ 4294967295 → (p r g : ℕ) → T (valid p) → r < s .roles → T (isState g)
+  pub last-state : (s : State) → GoodState s → s .policy ≡ 4294967295 → (p r g : ℕ) → T (valid p) → r < s .roles → T (isPolicyState g)
       → (eventOf (areaOf s) p 2 r g ≡ stays 13 (areaOf s)) × (eventOf (areaOf s) p 3 r g ≡ stays 13 (areaOf s))
   -- and after an opening, as the calls below
   pub no-row : Answered (decide [] ∷ decide (0 ∷ []) ∷ allow [] 0 ∷ []) (10 ∷ 12 ∷ 6 ∷ [])

@@ -18,7 +18,7 @@ use Rattle.meaning.specs.Rows.{Row, blank, Good, mostOpens, fits, step, contrad
 use Rattle.meaning.proofs.Answers.{fits-law}
 use Rattle.meaning.proofs.Kept.{blank-good}
 use Rattle.meaning.proofs.Theorems.{settle-law, step-good}
-use Rattle.meaning.specs.States.{isState}
+use Rattle.meaning.specs.States.{isPolicyState}
 use Rattle.meaning.specs.Kinds.{happened}
 use Rattle.area.specs.Layout.{mostRows}
 use Rattle.area.specs.State.{Entry, State, opened, withRows, isBlank, GoodRow, GoodState, areaOf, rowFor, put, withRow}
@@ -49,7 +49,7 @@ tells-then (e ∷ es) fs l m k a b = (a .0, tells-then es fs (outOf (callOf e) l
 -- ---- one reply
 
 module _ (s : State) (g : GoodState s) (p : ℕ) (v : T (valid p)) where
-  small : T (isState (s .policy))
+  small : T (isPolicyState (s .policy))
   small = le→leb (s .policy) lastPolicyState (g .policy-small)
 
   -- the call of a reply that names the area's own state

@@ -12,7 +12,7 @@ use Rattle.roles.proofs.Tests.{T?, T-or, T-true, T-false}
 use Rattle.meaning.specs.declared.Happening.{Happening}
 use Rattle.meaning.specs.declared.Happening.the-variants.{Allow, Deny, Given, Withdrawn}
 use Rattle.meaning.specs.Events.{agrees, after, isReply, Reply, Becomes, HolderSet, Possible}
-use Rattle.meaning.specs.States.{Numbered, happenings, became, Moves, TrueIn, PossibleIn, isState, due, isLate, isAhead, Timing, follows, Timely}
+use Rattle.meaning.specs.States.{Numbered, happenings, became, Changes, TrueIn, PossibleIn, isPolicyState, due, isLate, isAhead, Timing, follows, Timely}
 
 -- a reply changes nothing, an update agrees with every holder set
 reply-stays : (e : Happening) (h : ℕ) → isReply e ≡ true → after e h ≡ h
@@ -69,7 +69,7 @@ quiet (e ∷ t) g G k h y le =
     ∙ quiet t (e .state) G k h (y .1) (let c = follows-le g e (y .0) in omega arith)
 
 -- from state g to state g + d
-still : (t : List Numbered) (f : ℕ → ℕ) (g : ℕ) → Moves g t f → (m : ℕ) → g ≤ m → ((k h : ℕ) → g ≤ k → k < m → became t (suc k) h ≡ h) → f m ≡ f g
+still : (t : List Numbered) (f : ℕ → ℕ) (g : ℕ) → Changes g t f → (m : ℕ) → g ≤ m → ((k h : ℕ) → g ≤ k → k < m → became t (suc k) h ≡ h) → f m ≡ f g
 still t f g mv zero le q = ap f (let z : 0 ≡ g = omega arith in z)
 still t f g mv (suc m) le q = elim (ℕ-discrete (suc m) g) [
   | yes e ↦ ap f e
@@ -78,7 +78,7 @@ still t f g mv (suc m) le q = elim (ℕ-discrete (suc m) g) [
 
 -- ---- one event
 
-module _ (e : Numbered) (t : List Numbered) (f : ℕ → ℕ) (g G : ℕ) (y : Timely g (e ∷ t) G) (mv : Moves g (e ∷ t) f) where
+module _ (e : Numbered) (t : List Numbered) (f : ℕ → ℕ) (g G : ℕ) (y : Timely g (e ∷ t) G) (mv : Changes g (e ∷ t) f) where
   here : (k h : ℕ) → g ≤ k → k < e .state → (isReply (e .happening) ≡ false → e .state ≡ suc k → ⊥) → became (e ∷ t) (suc k) h ≡ h
   here k h a b x = became-other e t (suc k) h x ∙ quiet t (e .state) G (suc k) h (y .1) (omega arith)
 
@@ -98,7 +98,7 @@ module _ (e : Numbered) (t : List Numbered) (f : ℕ → ℕ) (g G : ℕ) (y : T
   in-state : f (e .state) ≡ after (e .happening) (f g)
   in-state = named (isReply (e .happening)) refl
 
-  moves-on : Moves (e .state) t f
+  moves-on : Changes (e .state) t f
   moves-on k a =
       let c = follows-le g e (y .0) in
       mv k (omega arith) ∙ became-other e t (suc k) (f k) (λ r q. let z : ⊥ = omega arith in z)
@@ -117,14 +117,14 @@ module _ (e : Numbered) (t : List Numbered) (f : ℕ → ℕ) (g G : ℕ) (y : T
 
 -- ---- a trail
 
-forward : (t : List Numbered) (f : ℕ → ℕ) (g G : ℕ) → Timely g t G → Moves g t f → TrueIn t f → Becomes (happenings t) (f g) (f G)
+forward : (t : List Numbered) (f : ℕ → ℕ) (g G : ℕ) → Timely g t G → Changes g t f → TrueIn t f → Becomes (happenings t) (f g) (f G)
 forward [] f g G y mv a = sym (still [] f g mv G y (λ k h p q. became-none (suc k) h))
 forward (e ∷ t) f g G y mv a = (
   agrees-named e t f g G y mv .1 (a .0),
   subst (λ (h : ℕ). Becomes (happenings t) h (f G)) (in-state e t f g G y mv) (forward t f (e .state) G (y .1) (moves-on e t f g G y mv) (a .1)),
 )
 
-back : (t : List Numbered) (f : ℕ → ℕ) (g G h : ℕ) → Timely g t G → Moves g t f → Becomes (happenings t) (f g) h → TrueIn t f × (f G ≡ h)
+back : (t : List Numbered) (f : ℕ → ℕ) (g G h : ℕ) → Timely g t G → Changes g t f → Becomes (happenings t) (f g) h → TrueIn t f × (f G ≡ h)
 back [] f g G h y mv b = (tt, still [] f g mv G y (λ k h p q. became-none (suc k) h) ∙ b)
 back (e ∷ t) f g G h y mv b =
     let r = back t f (e .state) G h (y .1) (moves-on e t f g G y mv) (subst⁻¹ (λ (x : ℕ). Becomes (happenings t) x h) (in-state e t f g G y mv) (b .1)) in
@@ -140,7 +140,7 @@ unfolding line
 line-start zero t h = refl
 line-start (suc g) t h = rw (lt-leb (suc g) g (omega arith))
 
-line-moves : (g : ℕ) (t : List Numbered) (h : ℕ) → Moves g t (line g t h)
+line-moves : (g : ℕ) (t : List Numbered) (h : ℕ) → Changes g t (line g t h)
 unfolding line
 line-moves g t h k a = rw (le-leb g k a)
 
@@ -181,18 +181,18 @@ happenings-then (f ∷ t) e = ap (λ (l : List Happening). f .happening ∷ l) (
 -- ---- which events count
 
 module _ (e : Happening) (i g : ℕ) where
-  pub due-counts : isLate e i g ≡ false → isAhead e i g ≡ false → (g ≡ due e i) × T (isState g)
+  pub due-counts : isLate e i g ≡ false → isAhead e i g ≡ false → (g ≡ due e i) × T (isPolicyState g)
   due-counts t a =
       let x : ¬ (g < due e i) = λ u. let z : _≡_ {A = ℕ} 0 1 = cc (lt-ltb g (due e i) u) in omega arith in
-      let y : ¬ (due e i < g) = λ u. T-not (isAhead e i g) (subst⁻¹ (λ (b : Bool). T (not b)) a tt) (T-or (ltb (due e i) g) (not (isState g)) .1 (inl (subst⁻¹ T (lt-ltb (due e i) g u) tt))) in
-      let s : T (isState g) = ⊎-elim (λ u. u) (λ u. absurd (T-not (isAhead e i g) (subst⁻¹ (λ (b : Bool). T (not b)) a tt) (T-or (ltb (due e i) g) (not (isState g)) .1 (inr u)))) (T? (isState g)) in
+      let y : ¬ (due e i < g) = λ u. T-not (isAhead e i g) (subst⁻¹ (λ (b : Bool). T (not b)) a tt) (T-or (ltb (due e i) g) (not (isPolicyState g)) .1 (inl (subst⁻¹ T (lt-ltb (due e i) g u) tt))) in
+      let s : T (isPolicyState g) = ⊎-elim (λ u. u) (λ u. absurd (T-not (isAhead e i g) (subst⁻¹ (λ (b : Bool). T (not b)) a tt) (T-or (ltb (due e i) g) (not (isPolicyState g)) .1 (inr u)))) (T? (isPolicyState g)) in
       (omega (arith, x, y), s)
 
   pub due-not-late : g ≡ due e i → isLate e i g ≡ false
   due-not-late q = le-ltb g (due e i) (omega arith)
 
-  pub due-not-ahead : g ≡ due e i → T (isState g) → isAhead e i g ≡ false
-  due-not-ahead q s = rw (le-ltb (due e i) g (omega arith), T-true (isState g) s)
+  pub due-not-ahead : g ≡ due e i → T (isPolicyState g) → isAhead e i g ≡ false
+  due-not-ahead q s = rw (le-ltb (due e i) g (omega arith), T-true (isPolicyState g) s)
 
 pub due-follows : (e : Numbered) (i : ℕ) → e .state ≡ due (e .happening) i → T (follows i e)
 due-follows e i t = go (isReply (e .happening)) t
@@ -210,16 +210,16 @@ due-later e i = go (isReply e)
 
 -- a reply is held against the state itself, an update against the next one
 module _ (e : Happening) (i g : ℕ) where
-  no-state : T (not (isState g)) ↔ (4294967295 < g)
-  no-state = ((λ t. nleb→lt g 4294967295 t), λ h. not-T (isState g) (λ t. let u : g ≤ 4294967295 = leb→le g 4294967295 t in omega arith))
+  no-state : T (not (isPolicyState g)) ↔ (4294967295 < g)
+  no-state = ((λ t. nleb→lt g 4294967295 t), λ h. not-T (isPolicyState g) (λ t. let u : g ≤ 4294967295 = leb→le g 4294967295 t in omega arith))
 
   late-by : (d : ℕ) → due e i ≡ d → T (isLate e i g) ↔ (g < d)
   late-by d q = rw q (ltb→lt g d, lt→ltb g d)
 
   ahead-by : (d : ℕ) → due e i ≡ d → T (isAhead e i g) ↔ ((d < g) ⊎ (4294967295 < g))
   ahead-by d q = rw q (
-    (λ t. ⊎-elim (λ u. inl (ltb→lt d g u)) (λ u. inr (no-state .0 u)) (T-or (ltb d g) (not (isState g)) .0 t)),
-    λ a. T-or (ltb d g) (not (isState g)) .1 (⊎-elim (λ u. inl (lt→ltb d g u)) (λ u. inr (no-state .1 u)) a),
+    (λ t. ⊎-elim (λ u. inl (ltb→lt d g u)) (λ u. inr (no-state .0 u)) (T-or (ltb d g) (not (isPolicyState g)) .0 t)),
+    λ a. T-or (ltb d g) (not (isPolicyState g)) .1 (⊎-elim (λ u. inl (lt→ltb d g u)) (λ u. inr (no-state .1 u)) a),
   )
 
 due-reply : (e : Happening) (i : ℕ) → Reply e → due e i ≡ i

@@ -9,6 +9,8 @@ use lib.Dec.{T}
 use lib.ListN.{length}
 use Rattle.roles.specs.Sets.{mostRoles, single, Below}
 use Rattle.meaning.specs.Events.{known, agrees, Effect, Reached, HolderSet, Possible, Verdict, Decides, AskAbout, Reply}
+use Rattle.meaning.specs.States.{Numbered, happenings, PossibleIn, Timing, Timely}
+use Rattle.meaning.specs.Kinds.{Kinds}
 use Rattle.meaning.specs.Lists.{Mem, Ascending, put}
 use Rattle.meaning.specs.Rows.{Row, blank, Leaves, Free, Good, mostOpens, fits, hasProperPart, apart, reduce, added, giving, contradicts, step, settle, Settles, rowAfter, Recorded, decide}
 use Rattle.meaning.proofs.OpenLaws as opens
@@ -18,6 +20,8 @@ use Rattle.meaning.proofs.Kept as kept
 use Rattle.meaning.proofs.Verdicts as verdicts
 use Rattle.meaning.proofs.Answers as answers
 use Rattle.meaning.proofs.Trails as trails
+use Rattle.meaning.proofs.States as states
+use Rattle.meaning.proofs.KindLaws as kind-laws
 use Rattle.meaning.proofs.Canonical as canon
 use Rattle.meaning.proofs.Singles as one-role
 use Rattle.meaning.specs.declared.Happening.{Happening}
@@ -77,6 +81,17 @@ trail-contradicts n es r e k =
       (λ t h p. law .0 t h (row-leaves n es r h .1 p)),
       λ f. law .1 (λ h m. f h (row-leaves n es r h .0 m)),
     )
+
+-- read by the states that its events name, a trail leaves the same holder sets possible, where its numbers are in time
+pub possible-in : (n g : ℕ) (t : List Numbered) (G : ℕ) → Timely g t G → (h : ℕ) → PossibleIn n g t G h ↔ Possible n (happenings t) h
+possible-in = states.possible-in
+
+-- which events are late and which are ahead, and what the kinds say
+pub timing : Timing
+timing = states.timing
+
+pub kinds : Kinds
+kinds = kind-laws.kinds
 
 -- demand 2 for one permission: 10, 11 and 12 exactly on their grounds
 pub row-decides : (n : ℕ) (es : List Happening) → Recorded n blank es → (s : ℕ) → Below n s → Decides (Possible n es) s (decide (rowAfter blank es) s .answer)

@@ -1,9 +1,9 @@
--- What events mean: the holder sets that a trail of them leaves possible, the verdict that those force, and whom to ask about.
+-- What events mean: the holder sets that a trail of them leaves possible, read as it comes, the verdict that holder sets force, and whom to ask about.
 -- A session may use a permission exactly when one of its roles holds it, as ANSI INCITS 359-2004 has it: it shares a role with the holder set.
 --     lastPermission, lastPolicyState    permissions are 1 to this one, policy states 0 to this one
 --     rolesIn e            the roles that an event names
 --     known n e            they all lie below the role count n
---     agrees e h           the holder set h agrees with the event as it arrives
+--     agrees e h           the holder set h agrees with the event
 --     after e h            the holder set h after the event
 --     Effect P e           the holder sets of P that agree with the event, as they are after it
 --     Becomes es h₀ h      h₀ agrees with every reply of the trail as it arrives, and becomes h by its updates

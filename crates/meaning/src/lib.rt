@@ -1,4 +1,4 @@
-// What the cache is told: an event is a permission with one of four happenings, and the policy state that it is true in.
+// What the cache is told: an event is a permission with one of four happenings, and the policy state that it names.
 use roles::RoleSet;
 
 // Permissions are 1 to this one.

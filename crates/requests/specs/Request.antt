@@ -2,11 +2,11 @@
 --     mostBytes                how many bytes a line may have before its LF
 --     letterO, letterA, letterD, letterG, letterR, letterQ, letterF, letterS    the letters that lines begin with, as bytes
 --     spaced v, spacedSet s    a number and a set, each behind a space
---     eventText p e g          the line that tells of the happening e about p in the policy state g
+--     eventText p e g          the line that tells of the happening e about p and names the policy state g
 --     requestText q            the line that asks for q, as Rules, The line program, writes it
 --     HappeningInRange e       its set or role lies in its range
 --     InRange q                q has a text: its numbers lie in their ranges
---     told p e g               the request that tells of the happening e about p in the policy state g
+--     told p e g               the request that tells of the happening e about p and names the policy state g
 --     inState k t              `k g` of the policy state g that the line ends with
 --     byLetter c t             the request of a line with the letter c and then t
 --     requestOf s              the request that a line's bytes say
