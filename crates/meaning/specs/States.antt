@@ -3,10 +3,10 @@
 --     happenings t         the happenings of a trail
 --     became t k h         the holder set of state k, where h is that of the state before: what the trail's update of that number makes of it, h if there
 --                          is none
---     Changes g t f          f has a holder set for each policy state; from state g on it changes by the trail's updates alone, each at its number
+--     Changes g t f        f has a holder set for each policy state; from state g on it changes by the trail's updates alone, each at its number
 --     TrueIn t f           every reply of the trail agrees with the holder set of the state that it names
 --     PossibleIn n g t G   the possible holder sets of state G, where the trail starts in state g: those of some such f, whatever it has in state g
---     isPolicyState g            g is a policy state, 0 to 4,294,967,295
+--     isPolicyState g      g is a policy state, 0 to 4,294,967,295
 --     due e i              the state in which the event e counts where the present one is i: a reply in that state, an update in the next
 --     isLate, isAhead e i g    it names a state g before that one; after it
 --     Timing               so a reply is late below the present state and ahead above it, an update late up to it and ahead beyond the next
