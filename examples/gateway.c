@@ -144,7 +144,7 @@ static void tell_someone(const char *what)
     printf("    ALARM: %s\n", what);
 }
 
-/* With nothing known, at a policy state. If that of the head office is not known, any number does until it is. */
+/* With nothing known, at a policy state. While that of the head office is not known 0 does: what comes is ahead then. */
 static void start_anew(struct gateway *gateway, uint32_t state)
 {
     if (wickthrush_open(gateway->area, sizeof gateway->area, ROLES, state) != WICKTHRUSH_RECORDED)
@@ -188,7 +188,7 @@ static void receive(struct gateway *gateway, struct event event)
 {
     if (put(&gateway->queue, event))
         return;
-    /* What is lost may be a withdrawal. Its number will be missed, but perhaps not before the next decision: nothing
+    /* What is lost may be a withdrawal. The next event will show it, but perhaps not before the next decision: nothing
      * that was known is sure. */
     gateway->queue.count = 0;
     start_anew(gateway, state_of(gateway));
@@ -224,16 +224,16 @@ static uint32_t hear(struct gateway *gateway, const struct event *event)
         printf("    no room to remember this; all of this permission is forgotten\n");
         break;
     case WICKTHRUSH_CONTRADICTION:
-        /* A reply. The head office changed its policy without a number, or named a wrong one. Which of its words is
-         * out of date cannot be known: keep neither. */
+        /* A reply. The head office changed its policy without a number, named a wrong one, or is mistaken. Which of its
+         * words is wrong cannot be known: keep neither. */
         forget(gateway, event->permission);
         tell_someone("the head office contradicts what it said before; all of this permission is forgotten");
         break;
     case WICKTHRUSH_BAD_AREA: mend(gateway, answer); break;
     default:
         mend(gateway, answer);
-        /* An update that cannot be taken stops the numbering: whatever comes behind it is ahead, and old rights stay in
-         * force. An unknown kind may be an update. */
+        /* An update that cannot be taken stops the numbering: whatever names its state or a later one is ahead, and old
+         * rights stay in force. An unknown kind may be an update. What is not above the cache's state is an old one. */
         if (!is_reply(event) && event->state > state_of(gateway)) {
             start_anew(gateway, event->state);
             tell_someone("an update could not be taken; the cache starts anew behind it and knows nothing");

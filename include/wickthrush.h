@@ -133,7 +133,7 @@ WICKTHRUSH_MUST_USE uint32_t wickthrush_open(uint8_t *area, size_t len, uint64_t
  *
  * A reply is taken as true in the state that it names, and counts only if that is the area's. An update counts only if
  * its state is one above the area's, and from then on that is the area's, with WICKTHRUSH_FORGOTTEN too. At state
- * 4294967295 no update counts any more: open the area anew.
+ * 4294967295 no update counts any more: the decision point has to count anew, and areas are opened anew.
  *
  * WICKTHRUSH_RECORDED       the area has the event and what was known before, as far as it still holds
  * WICKTHRUSH_BAD_AREA       len is wrong or the bytes are no area; area unchanged
