@@ -144,7 +144,7 @@ static void tell_someone(const char *what)
     printf("    ALARM: %s\n", what);
 }
 
-/* With nothing known, at a policy state. While that of the head office is not known 0 does: what comes is ahead then. */
+/* With nothing known, at a policy state; 0 while that of the head office is not known: what comes is ahead then. */
 static void start_anew(struct gateway *gateway, uint32_t state)
 {
     if (wickthrush_open(gateway->area, sizeof gateway->area, ROLES, state) != WICKTHRUSH_RECORDED)
