@@ -9,6 +9,7 @@ use lib.Dec.{T}
 use Rattle.meaning.specs.declared.Event.{Event}
 use Rattle.meaning.specs.Events.{isReply, Possible, lastPermission}
 use Rattle.meaning.specs.Rows.{blank, rowAfter, Recorded}
+use Rattle.meaning.proofs.States.{follows-le, follows-update}
 use Rattle.meaning.proofs.Theorems.{same-row}
 use Rattle.area.specs.State.{State, rowFor, areaOf}
 use Rattle.area.proofs.RowLaws.{rows-ext}
@@ -18,7 +19,7 @@ use Rattle.calls.specs.Demands as demands
 use Rattle.calls.proofs.CallLaws.{valid-law}
 use Rattle.calls.proofs.Invariant.{holds}
 use Rattle.calls.proofs.Decisions.{as-it-came, told}
-use Rattle.calls.proofs.Streams.{swapped-possible, afterAll, after-area, stream-roles, stream-trail, stream-order, stream-grows, stream-within, stream-named}
+use Rattle.calls.proofs.Streams.{asNumbered, swapped-possible, afterAll, after-area, stream-roles, stream-trail, stream-order, stream-grows, stream-within, stream-named}
 use Rattle.calls.proofs.Positions.{by-positions}
 
 -- ---- two pasts of one role count
@@ -89,7 +90,8 @@ module _ (l m : List ℕ) (n g : ℕ) (es fs : List Event) (b : demands.BothReco
       let apart : ¬ (r .to i ≡ r .to j) = λ q. let z : i ≡ j = sym (t .1) ∙ ap (r .from) q ∙ u .1 in omega arith in
       let ahead : ¬ (r .to j < r .to i) = λ q.
       let c = stream-order fs k recorded-too (r .to j) (r .to i) f e (u .0) (t .0) q in
-      never-cross (isReply (e .happening)) (isReply (f .happening)) (e .state) (f .state) not-both (d .0) (d .1) (c .0) (c .1) in
+      never-cross (isReply (e .happening)) (isReply (f .happening)) (e .state) (f .state) not-both
+      (follows-le (e .state) (asNumbered f) d) (λ u. follows-update (e .state) (asNumbered f) u d) (follows-le (f .state) (asNumbered e) c) (λ u. follows-update (f .state) (asNumbered e) u c) in
       omega (arith, apart, ahead)
 
   -- the state after a stream is that of the opening, or one that its events name, which the other stream has too

@@ -32,7 +32,7 @@ use Rattle.calls.proofs.Decisions.{in-time, told, came}
 
 -- ---- an event about p that is due
 
-rows-good : (n : ℕ) (s : State) → GoodState s → s .roles ≡ n → (q : ℕ) → Good n (rowFor q (s .rows))
+pub rows-good : (n : ℕ) (s : State) → GoodState s → s .roles ≡ n → (q : ℕ) → Good n (rowFor q (s .rows))
 rows-good n s g r q = subst (λ (m : ℕ). Good m (rowFor q (s .rows))) r (rowFor-good (s .roles) 0 q (s .rows) (g .good-rows))
 
 module _ (h : Past) (p : ℕ) (v : T (valid p)) (e : Numbered) (kn : T (known (roles h) (e .happening))) (now : e .state ≡ due (e .happening) (policy h)) where

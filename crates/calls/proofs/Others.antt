@@ -22,7 +22,7 @@ use Rattle.meaning.proofs.Theorems.{canonical}
 use Rattle.meaning.specs.Kinds.{happened}
 use Rattle.area.specs.Layout.{mostRows, areaBytes, goodBytes}
 use Rattle.area.specs.State.{State, inPolicy, GoodState, isBlank, rowFor, withRow, areaOf}
-use Rattle.area.proofs.RowLaws.{isBlank-law, rowFor-good}
+use Rattle.area.proofs.RowLaws.{isBlank-law}
 use Rattle.area.proofs.Bytes.{length-area}
 use Rattle.calls.specs.Calls.{Out, valid, fitsIn, eventOf, openOf, forgetOf, lastKind}
 use Rattle.calls.specs.Histories.{Call, opening, event, ask, forget, outOf, Trail, trailOn, trailAfter, rolesAfter, policyOn, policyAfter, Past, called, area, answerTo, roles, policy, trail}
@@ -32,6 +32,7 @@ use Rattle.calls.proofs.Outcomes.{Outcome, refused, recorded, forgotten
 use Rattle.calls.proofs.Invariant.{holds, row-then, trailOn-recorded, policyOn-refused, policyOn-recorded, policyOn-forgotten}
 use Rattle.calls.proofs.Decisions.{area-held, leaves-possible, other-roles, other-row, no-other}
 use Rattle.calls.proofs.Grounds.{new-row}
+use Rattle.calls.proofs.Full.{rows-good}
 
 -- ---- the answer to an event hangs on the role count, the policy state, the permission's row, and whether the row after it fits
 
@@ -119,7 +120,7 @@ module _ (h k : Past) (p : ℕ) (same : rowFor p (holds k .state .rows) ≡ rowF
       let c = new-row (holds k .state) p (step e w) (T-true (fits (step e w)) (fit .0)) (λ q. let z : _≡_ {A = ℕ} 0 1 = cc in omega arith) in
       let none : isBlank w ≡ true = ap (λ (u : Row). isBlank u) (sym same) ∙ c .0 in
       let is-blank : w ≡ blank = isBlank-law w .0 none in
-      let w-good : Good n w = subst (λ (m : ℕ). Good m w) (holds h .same-roles) (rowFor-good (holds h .state .roles) 0 p (holds h .state .rows) (holds h .good .good-rows)) in
+      let w-good : Good n w = rows-good n (holds h .state) (holds h .good) (holds h .same-roles) p in
       record {
         before = λ i hi. leaves-possible h p i .0 (subst⁻¹ (λ (u : Row). Leaves n u i) is-blank (blank-leaves n i hi));
         after = λ z.

@@ -10,14 +10,14 @@ use mathlib.Core.Logic.{_↔_, _⊎_, inl, inr, ⊎-elim}
 use Prim.Native.Nat.{ℕ, zero, suc, _≤_, _<_}
 use native.Mathlib.Omega.{arith}
 use borrow.Author.Tests.{eq-eqb}
-use lib.Dec.{eqb}
+use lib.Dec.{T, eqb}
 use Rattle.meaning.specs.declared.Event.{Event}
 use Rattle.meaning.specs.declared.Happening.{Happening}
 use Rattle.meaning.specs.declared.Happening.the-variants.{Allow, Deny, Given, Withdrawn}
-use Rattle.meaning.specs.Events.{isReply, Reply, after, Becomes, Possible}
-use Rattle.meaning.specs.States.{Numbered, numbered, happenings, due}
+use Rattle.meaning.specs.Events.{Reply, after, Becomes, Possible}
+use Rattle.meaning.specs.States.{Numbered, numbered, happenings, due, follows}
 use Rattle.meaning.proofs.Trails.{becomes-swap}
-use Rattle.meaning.proofs.States.{happenings-then, due-later}
+use Rattle.meaning.proofs.States.{happenings-then, due-later, due-follows, follows-sooner}
 use Rattle.meaning.specs.Kinds.{happened}
 use Rattle.area.specs.State.{State, areaOf}
 use Rattle.calls.specs.Calls.{Out, eventOf}
@@ -25,6 +25,10 @@ use Rattle.calls.specs.Histories.{Call, event, outOf, Trail, longer, tra
 use Rattle.calls.specs.Demands as demands
 use Rattle.calls.proofs.Outcomes.{Outcome, refused, recorded, forgotten, event-does}
 use Rattle.calls.proofs.Invariant.{holds, policyOn-recorded}
+
+-- an event without its permission
+abbrev pub asNumbered : Event → Numbered
+asNumbered e = numbered (e .happening) (e .state)
 
 unfoldable pub eventsOf : ℕ → List Event → List Happening
 eventsOf p [] = []
@@ -115,7 +119,7 @@ stream-trail (e ∷ es) h q r =
     ∙ one (eqb (e .permission) q)
   where
     f : Numbered
-    f = numbered (e .happening) (e .state)
+    f = asNumbered e
 
     told : List Happening
     told = happenings (trail h q .events)
@@ -147,36 +151,28 @@ module _ (h : Past) (e : Event) (zero-answer : answerTo h (callOf e) ≡ 0) wher
   unfolding policy
   recorded-policy =
       policy-call (e .permission) (e .happening) (e .state) (answerTo h (callOf e)) (policy h)
-      ∙ ap (λ (a : ℕ). policyOn (numbered (e .happening) (e .state)) a (policy h)) zero-answer
-      ∙ policyOn-recorded (numbered (e .happening) (e .state)) (policy h) recorded-due
+      ∙ ap (λ (a : ℕ). policyOn (asNumbered e) a (policy h)) zero-answer
+      ∙ policyOn-recorded (asNumbered e) (policy h) recorded-due
 
   recorded-later : policy h ≤ e .state
   recorded-later = let d = due-later (e .happening) (policy h) in omega (arith, recorded-due)
 
--- f may stand behind state i: an update only above it
-abbrev Behind : ℕ → Event → Type 0
-Behind i f = (i ≤ f .state) × (isReply (f .happening) ≡ false → i < f .state)
-
-behind-due : (f : Event) (i : ℕ) → f .state ≡ due (f .happening) i → Behind i f
-behind-due f i d = (let z = due-later (f .happening) i in omega arith, λ r. let z : due (f .happening) i ≡ suc i = rw r in omega arith)
-
--- every event of a recorded stream stands behind the state before it, and the state after it is not below its own
-stream-behind : (es : List Event) (h : Past) → AllRecorded es (area h) → (j : ℕ) (f : Event) → At es j f → Behind (policy h) f
+-- every event of a recorded stream stands behind the state before it
+stream-behind : (es : List Event) (h : Past) → AllRecorded es (area h) → (j : ℕ) (f : Event) → At es j f → T (follows (policy h) (asNumbered f))
 unfolding area
 stream-behind [] h r j f x = absurd x
-stream-behind (e ∷ es) h r zero f x = subst (Behind (policy h)) x (behind-due e (policy h) (recorded-due h e (r .0)))
+stream-behind (e ∷ es) h r zero f x = subst (λ (c : Event). T (follows (policy h) (asNumbered c))) x (due-follows (asNumbered e) (policy h) (recorded-due h e (r .0)))
 stream-behind (e ∷ es) h r (suc j) f x =
-    let b = stream-behind es (called h (callOf e)) (r .1) j f x in
-    let p = recorded-policy h e (r .0) in
-    let q = recorded-later h e (r .0) in
-    (let z = b .0 in omega arith, λ u. let z = b .1 u in omega arith)
+    follows-sooner (policy h) (policy (called h (callOf e))) (asNumbered f) (let p = recorded-policy h e (r .0) in let q = recorded-later h e (r .0) in omega arith)
+    (stream-behind es (called h (callOf e)) (r .1) j f x)
 
-pub stream-order : (es : List Event) (h : Past) → AllRecorded es (area h) → (i j : ℕ) (e f : Event) → At es i e → At es j f → i < j → Behind (e .state) f
+-- and behind every event before it
+pub stream-order : (es : List Event) (h : Past) → AllRecorded es (area h) → (i j : ℕ) (e f : Event) → At es i e → At es j f → i < j → T (follows (e .state) (asNumbered f))
 unfolding area
 stream-order [] h r i j e f x y lt = absurd x
 stream-order (d ∷ es) h r i zero e f x y lt = absurd (let z : ⊥ = omega arith in z)
 stream-order (d ∷ es) h r zero (suc j) e f x y lt =
-    subst (λ (i : ℕ). Behind i f) (recorded-policy h d (r .0) ∙ ap (λ (c : Event). c .state) x) (stream-behind es (called h (callOf d)) (r .1) j f y)
+    subst (λ (i : ℕ). T (follows i (asNumbered f))) (recorded-policy h d (r .0) ∙ ap (λ (c : Event). c .state) x) (stream-behind es (called h (callOf d)) (r .1) j f y)
 stream-order (d ∷ es) h r (suc i) (suc j) e f x y lt = stream-order es (called h (callOf d)) (r .1) i j e f x y (omega arith)
 
 pub stream-grows : (es : List Event) (h : Past) → AllRecorded es (area h) → policy h ≤ policy (afterAll (calls es) h)

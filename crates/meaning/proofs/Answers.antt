@@ -24,14 +24,6 @@ fits-not-law : (w : Row) → T (not (fits w)) ↔ (mostOpens < length (w .opens)
 unfolding fits
 fits-not-law w = (nleb→lt (length (w .opens)) mostOpens, lt→nleb (length (w .opens)) mostOpens)
 
--- an update is never contradicted
-update-agrees : (e : Happening) (w : Row) → ¬ (Reply e) → T (not (contradicts e w))
-unfolding contradicts
-update-agrees (Allow s) w n = absurd (n tt)
-update-agrees (Deny s) w n = absurd (n tt)
-update-agrees (Given r) w n = tt
-update-agrees (Withdrawn r) w n = tt
-
 -- an update contradicts nothing
 pub contradicts-reply : (e : Happening) (w : Row) → T (contradicts e w) → Reply e
 unfolding contradicts
@@ -99,7 +91,7 @@ module _ (n : ℕ) (e : Happening) (w : Row) (g : Good n w) (k : T (known n e)) 
   settles t (refused c) = record {
     contradiction = ((λ q. contradicts-law n w e g k .0 c), (λ f. refl));
     full = (unlike tt, (λ p. absurd (T-not (contradicts e w) (p .1) c)));
-    forgotten = (unlike tt, (λ p. absurd (T-not (contradicts e w) (update-agrees e w (p .0)) c)));
+    forgotten = (unlike tt, (λ p. absurd (p .0 (contradicts-reply e w c))));
     recorded = (unlike tt, (λ p. absurd (T-not (contradicts e w) (p .0) c)));
     row-recorded = unlike tt;
     row-refused = λ q. refl;
@@ -124,7 +116,7 @@ module _ (n : ℕ) (e : Happening) (w : Row) (g : Good n w) (k : T (known n e)) 
     row-forgotten = unlike tt;
   }
   settles t (dropped r f) = record {
-    contradiction = (unlike tt, (λ q. absurd (T-not (contradicts e w) (update-agrees e w r) (contradicts-law n w e g k .1 q))));
+    contradiction = (unlike tt, (λ q. absurd (r (contradicts-reply e w (contradicts-law n w e g k .1 q)))));
     full = (unlike tt, (λ p. absurd (r (p .0))));
     forgotten = ((λ q. (r, fits-not-law (step e w) .0 f)), (λ p. refl));
     recorded = (unlike tt, (λ p. absurd (T-not (fits (step e w)) f (fits-law (step e w) .1 (p .1)))));

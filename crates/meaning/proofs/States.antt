@@ -12,31 +12,24 @@ use Rattle.roles.proofs.Tests.{T?, T-or, T-true, T-false}
 use Rattle.meaning.specs.declared.Happening.{Happening}
 use Rattle.meaning.specs.declared.Happening.the-variants.{Allow, Deny, Given, Withdrawn}
 use Rattle.meaning.specs.Events.{agrees, after, isReply, Reply, Becomes, HolderSet, Possible}
+use Rattle.meaning.proofs.Trails.{reply-after}
 use Rattle.meaning.specs.States.{Numbered, happenings, became, Changes, TrueIn, PossibleIn, isPolicyState, due, isLate, isAhead, Timing, follows, Timely}
 
--- a reply changes nothing, an update agrees with every holder set
-reply-stays : (e : Happening) (h : ℕ) → isReply e ≡ true → after e h ≡ h
-unfolding after
-reply-stays (Allow s) h r = refl
-reply-stays (Deny s) h r = refl
-reply-stays (Given x) h r = absurd (let z : _≡_ {A = ℕ} 0 1 = cc in let n : ⊥ = omega arith in n)
-reply-stays (Withdrawn x) h r = absurd (let z : _≡_ {A = ℕ} 0 1 = cc in let n : ⊥ = omega arith in n)
-
-update-agrees : (e : Happening) (h : ℕ) → isReply e ≡ false → T (agrees e h)
+update-agrees : (e : Happening) (h : ℕ) → ¬ (Reply e) → T (agrees e h)
 unfolding agrees
-update-agrees (Allow s) h r = absurd (let z : _≡_ {A = ℕ} 0 1 = cc in let n : ⊥ = omega arith in n)
-update-agrees (Deny s) h r = absurd (let z : _≡_ {A = ℕ} 0 1 = cc in let n : ⊥ = omega arith in n)
-update-agrees (Given x) h r = tt
-update-agrees (Withdrawn x) h r = tt
+update-agrees (Allow s) h n = absurd (n tt)
+update-agrees (Deny s) h n = absurd (n tt)
+update-agrees (Given x) h n = tt
+update-agrees (Withdrawn x) h n = tt
 
 -- what an event's number says
 follows-reply : (g : ℕ) (e : Numbered) → isReply (e .happening) ≡ true → T (follows g e) → g ≤ e .state
 follows-reply g e r t = leb→le g (e .state) (subst (λ (b : Bool). T (cond b (leb g (e .state)) (ltb g (e .state)))) r t)
 
-follows-update : (g : ℕ) (e : Numbered) → isReply (e .happening) ≡ false → T (follows g e) → g < e .state
+pub follows-update : (g : ℕ) (e : Numbered) → isReply (e .happening) ≡ false → T (follows g e) → g < e .state
 follows-update g e r t = ltb→lt g (e .state) (subst (λ (b : Bool). T (cond b (leb g (e .state)) (ltb g (e .state)))) r t)
 
-follows-le : (g : ℕ) (e : Numbered) → T (follows g e) → g ≤ e .state
+pub follows-le : (g : ℕ) (e : Numbered) → T (follows g e) → g ≤ e .state
 follows-le g e t = go (isReply (e .happening)) refl
   where
     go : (b : Bool) → isReply (e .happening) ≡ b → g ≤ e .state
@@ -86,7 +79,7 @@ module _ (e : Numbered) (t : List Numbered) (f : ℕ → ℕ) (g G : ℕ) (y : T
   named : (b : Bool) → isReply (e .happening) ≡ b → f (e .state) ≡ after (e .happening) (f g)
   named true r =
       still (e ∷ t) f g mv (e .state) (follows-le g e (y .0)) (λ k h a b. here k h a b (λ q z. absurd (let w : true ≡ false = sym r ∙ q in let z : _≡_ {A = ℕ} 0 1 = cc in let n : ⊥ = omega arith in n)))
-      ∙ sym (reply-stays (e .happening) (f g) r)
+      ∙ sym (reply-after (e .happening) (subst⁻¹ T r tt) (f g))
   named false r = before (e .state) refl (follows-update g e r (y .0))
     where
       before : (m : ℕ) → e .state ≡ m → g < e .state → f (e .state) ≡ after (e .happening) (f g)
@@ -109,11 +102,11 @@ module _ (e : Numbered) (t : List Numbered) (f : ℕ → ℕ) (g G : ℕ) (y : T
     where
       go : (b : Bool) → isReply (e .happening) ≡ b → T (agrees (e .happening) (f g)) ↔ T (agrees (e .happening) (f (e .state)))
       go true r =
-          let q : f (e .state) ≡ f g = named true r ∙ reply-stays (e .happening) (f g) r in (
+          let q : f (e .state) ≡ f g = named true r ∙ reply-after (e .happening) (subst⁻¹ T r tt) (f g) in (
             (λ a. subst⁻¹ (λ (h : ℕ). T (agrees (e .happening) h)) q a),
             λ a. subst (λ (h : ℕ). T (agrees (e .happening) h)) q a,
           )
-      go false r = ((λ a. update-agrees (e .happening) (f (e .state)) r), (λ a. update-agrees (e .happening) (f g) r))
+      go false r = let n : ¬ (Reply (e .happening)) = subst T r in ((λ a. update-agrees (e .happening) (f (e .state)) n), (λ a. update-agrees (e .happening) (f g) n))
 
 -- ---- a trail
 
@@ -157,21 +150,21 @@ possible-in n g t G y h = (
 
 -- ---- numbers one behind the other
 
-pub timely-ends : (g : ℕ) (t : List Numbered) (G : ℕ) → Timely g t G → g ≤ G
-timely-ends g [] G y = y
-timely-ends g (e ∷ t) G y = let a = follows-le g e (y .0) in let b = timely-ends (e .state) t G (y .1) in omega arith
-
 -- a later state ends the trail as well
 pub timely-later : (g : ℕ) (t : List Numbered) (G H : ℕ) → Timely g t G → G ≤ H → Timely g t H
 timely-later g [] G H y le = omega arith
 timely-later g (e ∷ t) G H y le = (y .0, timely-later (e .state) t G H (y .1) le)
 
-pub timely-then : (g : ℕ) (t : List Numbered) (G : ℕ) (e : Numbered) → Timely g t G → T (follows G e) → Timely g (t ++ e ∷ []) (e .state)
-timely-then g [] G e y f = (sooner (isReply (e .happening)) f, omega arith)
+-- what fits behind a state fits behind those before it
+pub follows-sooner : (g G : ℕ) (e : Numbered) → g ≤ G → T (follows G e) → T (follows g e)
+follows-sooner g G e le = go (isReply (e .happening))
   where
-    sooner : (b : Bool) → T (cond b (leb G (e .state)) (ltb G (e .state))) → T (cond b (leb g (e .state)) (ltb g (e .state)))
-    sooner true h = let k = leb→le G (e .state) h in le→leb g (e .state) (omega arith)
-    sooner false h = let k = ltb→lt G (e .state) h in subst⁻¹ T (lt-ltb g (e .state) (omega arith)) tt
+    go : (b : Bool) → T (cond b (leb G (e .state)) (ltb G (e .state))) → T (cond b (leb g (e .state)) (ltb g (e .state)))
+    go true h = let k = leb→le G (e .state) h in le→leb g (e .state) (omega arith)
+    go false h = let k = ltb→lt G (e .state) h in lt→ltb g (e .state) (omega arith)
+
+pub timely-then : (g : ℕ) (t : List Numbered) (G : ℕ) (e : Numbered) → Timely g t G → T (follows G e) → Timely g (t ++ e ∷ []) (e .state)
+timely-then g [] G e y f = (follows-sooner g G e y f, omega arith)
 timely-then g (f ∷ t) G e y k = (y .0, timely-then (f .state) t G e (y .1) k)
 
 pub happenings-then : (t : List Numbered) (e : Numbered) → happenings (t ++ e ∷ []) ≡ happenings t ++ e .happening ∷ []

@@ -105,10 +105,6 @@ set-read line i s n q = go (readSet (drop i line)) refl q
         record { reads = rw (x, y, b .0) e; inside = rw y (b .1) }
     go bad e r = let z : _≡_ {A = ℕ} 0 1 = cc in absurd (omega arith)
 
-pub set-bad : (line : List ℕ) (g : Got) → set.Bad ≡ setField line g → g ≡ bad
-set-bad line (found w rest) q = let z : _≡_ {A = ℕ} 0 1 = cc in absurd (omega arith)
-set-bad line bad q = refl
-
 -- ---- along the roles of a set
 
 -- the answer for the roles not yet passed is the answer for all
