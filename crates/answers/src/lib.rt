@@ -1,5 +1,7 @@
 // Requests answered on the lent area, and their answers written. `show` has the rows after an S, `write` answers and rows as
 // text.
+#![tactic(auto)]
+
 pub mod show;
 pub mod write;
 

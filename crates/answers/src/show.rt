@@ -11,14 +11,14 @@ use area::MOST_ROWS;
 use walker::{Handed, Walker, hand_out, resume, start};
 
 // Where showing rows has come to: the row to go on with, of which MOST_ROWS stands for none, and how much of the buffer is written.
-#[derive(Drop)]
+#[derive(Clone, Copy)]
 pub struct Shown {
     pub row: usize,
     pub written: usize,
 }
 
 // The same, and whether it goes on.
-#[derive(Drop)]
+#[derive(Clone, Copy)]
 struct Showing {
     going: bool,
     row: usize,

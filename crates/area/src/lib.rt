@@ -1,4 +1,6 @@
 // The lent area: its numbers, and the check of it.
+#![tactic(auto)]
+
 pub mod check;
 
 use meaning::MOST_OPENS;

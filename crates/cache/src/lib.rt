@@ -1,4 +1,6 @@
 // The calls on a lent area: open, event, decide, forget; and look, for the parts above that show what decide goes by.
+#![tactic(auto)]
+
 ghost use Rattle.std.specs.Prelude.{◌≡◌, cond, ◌≤◌, T};
 ghost use Rattle.roles.specs.Sets.{most_roles, all_below, part_of};
 ghost use Rattle.meaning.specs.Events.{known, is_reply, last_policy_state};
@@ -108,7 +110,7 @@ pub fn decide(a: &[u8], p: u32, s: u64) -> Decided
 // ---- a look
 
 // What decide gives, and the row that it goes by.
-#[derive(Drop)]
+#[derive(Clone, Copy)]
 pub struct Looked {
     pub decided: Decided,
     pub row: Row,

@@ -1,4 +1,6 @@
 // The answers of the calls; `specs/Calls.antt` defines the calls themselves.
+#![tactic(auto)]
+
 ghost use Rattle.std.specs.Prelude.{◌≡◌};
 ghost use Rattle.meaning.specs.Rows.{bare};
 ghost use Rattle.calls.specs.Answers.{number_of, decided_of};
@@ -6,7 +8,7 @@ ghost use Rattle.calls.specs.Answers.{number_of, decided_of};
 use roles::MOST_ROLES;
 
 // What a call answers, and what a line that can't be read is answered; `number_of` has the numbers.
-#[derive(Drop)]
+#[derive(Clone, Copy)]
 pub enum Answer {
     Recorded,
     BadArea,
@@ -26,7 +28,7 @@ pub enum Answer {
 }
 
 // What decide gives: its answer, and the role to ask about, which is MOST_ROLES where there is none.
-#[derive(Drop)]
+#[derive(Clone, Copy)]
 pub struct Decided {
     pub answer: Answer,
     pub role: u64,

@@ -1,5 +1,7 @@
 // What the programs for people share: files read, arguments, and messages about them. To be believed is `outside`, where alone
 // the system is met.
+#![tactic(auto)]
+
 pub mod outside;
 
 ghost use Rattle.std.specs.Prelude.{◌+◌, ◌≤◌, length};

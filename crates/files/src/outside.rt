@@ -29,7 +29,7 @@ pub fn say_why(what: &[u8]) {
 
 // What came of reading a file: how many bytes it put at the start of the buffer; or that there is none of that name; or that
 // the system refused.
-#[derive(Drop)]
+#[derive(Clone, Copy)]
 pub struct Loaded {
     bytes: usize,
     missing: bool,
@@ -57,7 +57,7 @@ impl Loaded {
 }
 
 // What one read answered: how many bytes it put behind the first n, none at the end of the file, or that it failed.
-#[derive(Drop)]
+#[derive(Clone, Copy)]
 struct More {
     bytes: usize,
     failed: bool,

@@ -1,5 +1,7 @@
 // The line program: standard input to standard output, on an area that starts as zeros. What it writes is proved in `stream`;
 // to be believed is that `main` calls `answer_lines`, once.
+#![tactic(auto)]
+
 ghost use Rattle.std.specs.Prelude.{◌≡◌, ◌≤◌, length, replicate};
 ghost use Rattle.area.specs.Layout.{area_bytes};
 ghost use Rattle.answers.specs.Texts.{most_text};

@@ -1,4 +1,6 @@
 // The line program, from a piece of its input to the bytes written for it.
+#![tactic(auto)]
+
 ghost use Rattle.std.specs.Prelude.{◌≡◌, ◌-◌, ◌≤◌, ◌&&◌, nat_le, nat_lt};
 ghost use Rattle.answers.specs.Texts.{most_text};
 ghost use Rattle.lines.specs.Run.{Ready, Comes, RestShown, Advanced};
@@ -11,7 +13,7 @@ use split::{Splitter, asked};
 use text::line_end;
 
 // The line so far, its number, and the next row to be shown; MOST_ROWS and more stand for none.
-#[derive(Drop)]
+#[derive(Clone, Copy)]
 pub struct Run {
     pub line: Splitter,
     pub number: u64,
@@ -19,7 +21,7 @@ pub struct Run {
 }
 
 // Where a run has come to: how many bytes of the piece are read, and how many of the buffer written.
-#[derive(Drop)]
+#[derive(Clone, Copy)]
 pub struct Progress {
     pub run: Run,
     pub read: usize,

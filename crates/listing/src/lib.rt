@@ -1,4 +1,6 @@
 // A list of names, lines `number name`, made into a name table.
+#![tactic(auto)]
+
 ghost use Rattle.std.specs.Prelude.{◌≡◌, ◌&&◌, ◌+◌, ◌*◌, ◌≤◌, ◌<◌, eqb, leb, length, take, drop};
 ghost use Rattle.std.proofs.lemmas.List.Edits.{sets};
 ghost use Rattle.roles.specs.Sets.{most_roles};
@@ -15,7 +17,7 @@ use text::{NumberField, byte_at, line_end, read_number, write_bytes};
 pub const MOST_TABLE: usize = CONTENTS_BYTES + (MOST_ROLES as usize) * MOST_NAME;
 
 // The number of the first line that is refused, from 1 on, or 0; and how many bytes the table of the lines before it has.
-#[derive(Drop)]
+#[derive(Clone, Copy)]
 pub struct Listed {
     pub line: u64,
     pub bytes: usize,

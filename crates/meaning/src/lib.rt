@@ -1,4 +1,6 @@
 // What the cache is told: an event is a permission with one of four happenings, and the policy state that it names.
+#![tactic(auto)]
+
 use roles::RoleSet;
 
 // Permissions are 1 to this one.
@@ -10,7 +12,7 @@ pub const LAST_POLICY_STATE: u64 = 4294967295;
 // A row has at most so many open sets.
 pub const MOST_OPENS: usize = 15;
 
-#[derive(Drop)]
+#[derive(Clone, Copy)]
 pub enum Happening {
     // The server's reply to a session with these roles.
     Allow(RoleSet),
@@ -20,7 +22,7 @@ pub enum Happening {
     Withdrawn(u64),
 }
 
-#[derive(Drop)]
+#[derive(Clone, Copy)]
 pub struct Event {
     pub permission: u32,
     pub happening: Happening,

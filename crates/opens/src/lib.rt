@@ -1,5 +1,7 @@
 // Whether the open sets of a row, which stand in lent bytes, are good. Called with a number of open sets, not a variable, a
 // function here becomes straight code.
+#![tactic(auto)]
+
 ghost use Rattle.std.specs.Prelude.{◌≡◌, ◌||◌, ◌+◌, ◌≤◌, ◌<◌, ltb, leb, get_or, take, drop};
 ghost use Rattle.words.specs.Words.{words, Spans};
 ghost use Rattle.roles.specs.Sets.{part_of, joined};

@@ -1,5 +1,7 @@
 // An area as lines that the line program reads: one call writes the O line, another the lines of one row, into a lent
 // buffer. `write` has the lines as text.
+#![tactic(auto)]
+
 mod write;
 
 ghost use Rattle.written.specs.Print.{Prints};

@@ -1,4 +1,6 @@
 // What the measurements call: the check by itself, for a C program.
+#![tactic(auto)]
+
 ghost use Rattle.std.specs.Prelude.{◌≡◌};
 ghost use Rattle.area.specs.Layout.{good_bytes};
 

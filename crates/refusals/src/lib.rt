@@ -1,1 +1,3 @@
 // Refusals as data. No function: the crate is mathematics, and `specs/Refusals.antt` has it.
+#![tactic(auto)]
+

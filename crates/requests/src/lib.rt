@@ -1,4 +1,6 @@
 // One line of bytes, read as a request of the line program.
+#![tactic(auto)]
+
 ghost use Rattle.std.specs.Prelude.{◌≡◌, ◌^◌, ◌<◌, drop};
 ghost use Rattle.text.specs.Number.{read_number};
 ghost use Rattle.text.specs.Set.{read_set};
@@ -17,7 +19,7 @@ pub const MOST_BYTES: usize = 216;
 const LAST_COUNT: u64 = 255;
 
 // What a line asks for.
-#[derive(Drop)]
+#[derive(Clone, Copy)]
 pub enum Request {
     Open(u64, u32),
     Told(Event),
@@ -28,14 +30,14 @@ pub enum Request {
 }
 
 // A number that is the last field.
-#[derive(Drop)]
+#[derive(Clone, Copy)]
 enum LastNumber {
     Value(u64),
     Bad,
 }
 
 // The fields `p set`, and the place behind them.
-#[derive(Drop)]
+#[derive(Clone, Copy)]
 enum PermissionSet {
     Read {
         permission: u32,
@@ -46,7 +48,7 @@ enum PermissionSet {
 }
 
 // The fields `p r`, and the place behind them.
-#[derive(Drop)]
+#[derive(Clone, Copy)]
 enum PermissionRole {
     Read {
         permission: u32,

@@ -1,4 +1,6 @@
 // Roles are numbers from 0 on. A set of them is a 64-bit number in which role r is the bit of weight 2^r.
+#![tactic(auto)]
+
 ghost use Rattle.std.specs.Prelude.{◌≡◌};
 ghost use Rattle.roles.specs.Sets.{joined, without, shares, all_below, single, below64, outside};
 
@@ -7,7 +9,7 @@ pub const MOST_ROLES: u64 = 64;
 
 pub const LAST_ROLE: u64 = MOST_ROLES - 1;
 
-#[derive(Drop)]
+#[derive(Clone, Copy)]
 pub struct RoleSet {
     pub bits: u64,
 }

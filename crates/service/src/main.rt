@@ -1,6 +1,8 @@
 // For service people: `print AREA` prints a stored area as lines, `feed AREA` answers lines on one and stores it again. What is
 // decided stands here, on slices; to be believed are `outside` here and in `files` and `stream`, where alone the system is met, and
 // that the steps here go on with what the ones before gave.
+#![tactic(auto)]
+
 mod outside;
 
 ghost use Rattle.std.specs.Prelude.{◌≡◌, true, ◌||◌, ◌+◌, ◌*◌, ◌≤◌, T, length, replicate, take};
@@ -33,7 +35,7 @@ const MOST_NAME: usize = 4091;
 
 // ---- what is asked for
 
-#[derive(Drop)]
+#[derive(Clone, Copy)]
 enum Asked {
     Print,
     Feed,
@@ -86,7 +88,7 @@ fn tell_unfinished(name: &[u8])
 // ---- print
 
 // The answer, whether the output took all that was handed to it, and how many bytes that were.
-#[derive(Drop)]
+#[derive(Clone, Copy)]
 struct PrintEnd {
     answer: u32,
     all: bool,
@@ -174,7 +176,7 @@ fn may_start(loaded: Loaded, area: &[u8]) -> bool
 }
 
 // Whether all lines are answered, and whether the area is then one to be stored.
-#[derive(Drop)]
+#[derive(Clone, Copy)]
 struct Fed {
     done: bool,
     good: bool,

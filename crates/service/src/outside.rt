@@ -8,7 +8,7 @@ ghost use Rattle.service.specs.Names.{new_name};
 
 // What came of making the new file: its descriptor, whether there is one, and whether it is none of the three that lines,
 // answers and messages go by. With one of those closed the new file would get its number, and what is written there.
-#[derive(Drop)]
+#[derive(Clone, Copy)]
 pub struct Made {
     fd: i32,
     made: bool,
@@ -49,7 +49,7 @@ pub fn remove(made: Made, new: &[u8])
 }
 
 // Whether the new file has all of the area, and whether it has the old one's place.
-#[derive(Drop)]
+#[derive(Clone, Copy)]
 pub struct Stored {
     written: bool,
     renamed: bool,

@@ -1,4 +1,6 @@
 // The sheet for the wall: what is known of one permission, with the names of the roles. It knows the area by the cache's look alone.
+#![tactic(auto)]
+
 mod write;
 
 ghost use Rattle.written.specs.Print.{Prints};

@@ -1,11 +1,13 @@
 // Input bytes as lines: the line so far, and where a line ends.
+#![tactic(auto)]
+
 ghost use Rattle.std.specs.Prelude.{◌≡◌, ◌+◌, drop};
 ghost use Rattle.split.specs.Split.{none, is_none, held_all, said, held_in};
 
 use requests::{MOST_BYTES, Request, read_request};
 
 // The line so far: the first `len` of `bytes`. A `len` above MOST_BYTES says that it is too long.
-#[derive(Drop)]
+#[derive(Clone, Copy)]
 pub struct Splitter {
     pub bytes: [u8; MOST_BYTES],
     pub len: usize,

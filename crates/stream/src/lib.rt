@@ -1,6 +1,8 @@
 // Standard input answered to standard output, on whatever area is lent. What is written for which input is proved in `lines`,
 // and here that the loop writes it. To be believed is `outside`, where alone something is read or written, and the loop
 // of `answer_input`: each turn takes the flow of the one before.
+#![tactic(auto)]
+
 pub mod outside;
 
 ghost use Rattle.std.specs.Prelude.{◌≡◌, ◌&&◌, ◌+◌, ◌≤◌, leb, length};
@@ -16,7 +18,7 @@ use outside::{Got, Sent, turn};
 
 // The run; the places of the piece from which and up to which it is to be read; whether a last line without LF has got one;
 // whether a read or a write failed, and whether all is answered.
-#[derive(Drop)]
+#[derive(Clone, Copy)]
 pub struct Flow {
     pub run: Run,
     pub from: usize,
@@ -125,7 +127,7 @@ fn after_write(flow: Flow, p: Progress, sent: Sent) -> Flow
 }
 
 // Where the loop stopped, and how many turns it took.
-#[derive(Drop)]
+#[derive(Clone, Copy)]
 pub struct Ended {
     pub flow: Flow,
     pub turns: u64,

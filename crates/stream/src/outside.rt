@@ -13,7 +13,7 @@ const INPUT: i32 = 0;
 const OUTPUT: i32 = 1;
 
 // What a read of the input answered: -1, or how many bytes it put at the start of the piece, none at the end of the input.
-#[derive(Drop)]
+#[derive(Clone, Copy)]
 pub struct Got {
     answer: isize,
 }
@@ -35,7 +35,7 @@ fn read(piece: &mut [u8]) -> Got
 }
 
 // How many bytes were handed to the output, and whether it took them all.
-#[derive(Drop)]
+#[derive(Clone, Copy)]
 pub struct Sent {
     bytes: usize,
     all: bool,

@@ -1,5 +1,7 @@
 // Numbers and role sets as text: what a field of a line reads as, and how it is written; so are bytes as they are. Where a line
 // ends.
+#![tactic(auto)]
+
 ghost use Rattle.std.specs.Prelude.{◌≡◌, ◌∷◌, ◌+◌, ◌^◌, ◌≤◌, ◌<◌, length, drop};
 ghost use Rattle.roles.specs.Sets.{most_roles};
 ghost use Rattle.text.specs.Ascii.{space};
@@ -12,14 +14,14 @@ ghost use Rattle.text.specs.Write.{Wrote};
 use roles::{LAST_ROLE, RoleSet};
 
 // What a number's field reads as: its value and the place behind it.
-#[derive(Drop)]
+#[derive(Clone, Copy)]
 pub enum NumberField {
     Read { value: u64, next: usize },
     Bad,
 }
 
 // What a set's field reads as: the set and the place behind it.
-#[derive(Drop)]
+#[derive(Clone, Copy)]
 pub enum SetField {
     Read { set: RoleSet, next: usize },
     Bad,

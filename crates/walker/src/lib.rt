@@ -1,5 +1,7 @@
 // The walker: it keeps the lent area and the number of the next row, and hands out the rows one after another. The
 // functions over it are thin, and each is proved by hand; the work is in functions on the slice and the number.
+#![tactic(auto)]
+
 ghost use Rattle.std.specs.Prelude.{◌≡◌};
 ghost use Rattle.walker.specs.Walk.{Walkable, begun, started, go_on_at, resumed, handed};
 
@@ -8,14 +10,14 @@ use area::check::check;
 use rows::{Row, blank};
 use table::{permission_at, row_at, rows_used};
 
-#[derive(Drop)]
+#[derive(Clone, Copy)]
 pub struct Walker<'a> {
     pub area: &'a [u8],
     pub next: usize,
 }
 
 // A row with its permission and the number of the row after it; or none, and the number stays.
-#[derive(Drop)]
+#[derive(Clone, Copy)]
 pub struct Handed {
     pub some: bool,
     pub permission: u32,
@@ -24,14 +26,14 @@ pub struct Handed {
 }
 
 // The answer to a start, by its number, and the number of the first row: of a bad area one that no row ever has.
-#[derive(Drop)]
+#[derive(Clone, Copy)]
 struct Begun {
     answer: u32,
     row: usize,
 }
 
 // The answer to a start, and the walker; on a bad area it hands out no rows.
-#[derive(Drop)]
+#[derive(Clone, Copy)]
 pub struct Started<'a> {
     pub answer: u32,
     pub walker: Walker<'a>,

@@ -1,6 +1,8 @@
 // For the people at a works: `sheet AREA PERMISSION SET [NAMES]` prints the sheet for the wall from a stored area, `names` makes a
 // name table from a list. What is decided stands here, on slices; to be believed are `outside` of `files` and of `stream`, where
 // alone the system is met, and that the steps here go on with what the ones before gave.
+#![tactic(auto)]
+
 ghost use Rattle.std.specs.Prelude.{◌≡◌, ◌≤◌, length, take};
 ghost use Rattle.io.specs.Counts.{IsPrefixLen};
 ghost use Rattle.files.specs.Messages.{Tellable};
@@ -32,7 +34,7 @@ const MOST_DIGITS: usize = 20;
 
 // ---- what is asked for
 
-#[derive(Drop)]
+#[derive(Clone, Copy)]
 enum Asked {
     Sheet,
     SheetNamed,
@@ -122,7 +124,7 @@ fn standard_table(out: &mut [u8]) -> usize
 // ---- the sheet
 
 // The answer of the sheet, and how many bytes it has; or the argument that does not read.
-#[derive(Drop)]
+#[derive(Clone, Copy)]
 enum Shown {
     Told { answer: u32, bytes: u32 },
     BadPermission,
@@ -192,7 +194,7 @@ fn hand_out(n: usize, out: &[u8])
 // ---- files
 
 // How many bytes of a file stand at the start of the buffer, and whether it could be read; what kept it from that is told.
-#[derive(Drop)]
+#[derive(Clone, Copy)]
 struct Fetched {
     bytes: usize,
     done: bool,

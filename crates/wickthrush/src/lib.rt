@@ -1,4 +1,6 @@
 // What C calls: the calls of `cache`, `print` and `sheet`, with the answers as numbers. `include/wickthrush.h` declares them.
+#![tactic(auto)]
+
 ghost use Rattle.std.specs.Prelude.{◌≡◌};
 ghost use Rattle.calls.specs.Calls.{open_of, event_of, decide_of, forget_of};
 ghost use Rattle.written.specs.Print.{Prints};
@@ -34,7 +36,7 @@ pub extern "C" fn wickthrush_event(
 
 // `wickthrush_decided` of the header. C gets it by value, so that a caller who takes it for the answer does not compile.
 #[repr(C)]
-#[derive(Drop)]
+#[derive(Clone, Copy)]
 pub struct Decided {
     pub answer: u32,
     pub role: u32,

@@ -1,4 +1,6 @@
 // What a call that writes a text into a lent buffer gives.
+#![tactic(auto)]
+
 ghost use Rattle.std.specs.Prelude.{◌≡◌, ◌^◌, ◌<◌};
 
 // Two refusals that more than one such call has.
@@ -8,7 +10,7 @@ pub const SHORT_BUFFER: u32 = 16;
 
 // `wickthrush_written` of the header: the answer's number, and how many bytes were written.
 #[repr(C)]
-#[derive(Drop)]
+#[derive(Clone, Copy)]
 pub struct Written {
     pub answer: u32,
     pub bytes: u32,

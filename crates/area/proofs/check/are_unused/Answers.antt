@@ -1,0 +1,12 @@
+-- `check::are_unused` meets its contract: the words that it reads are the rows'. Assumes nothing.
+use mathlib.Core.Path.{ap₂, ◌∙◌}
+use mathlib.Core.Bool.{◌&&◌}
+use Rattle.words.specs.Words.{words}
+use Rattle.area.proofs.CheckLaws.{zero-rows}
+use borrow.Author.Rules.{rules}
+use Rattle.area.proofs.check.are_unused.Goals as goal
+
+pub returns : goal.returns
+returns c =
+    let s = c in
+    ap₂ ◌&&◌ c.are_zero.ensures c.are_zero-2.ensures ∙ zero-rows (words s.args.a.now) s.args.i s.args.n s.requires.1

@@ -1,0 +1,68 @@
+-- `check::rest_unused` meets its contract: the answer for the rows not yet passed is the answer for all. Assumes nothing.
+use borrow.Author.Rules.{rules}
+use borrow.Author.Tests.{not-true, not-false}
+use mathlib.Core.Path.{◌≡◌, refl, sym, ap, ◌∙◌}
+use mathlib.Core.Bool.{true, false}
+use mathlib.Core.List.{List}
+use Prim.Native.Nat.{ℕ, ◌+◌, ◌-◌, ◌≤◌}
+use native.Mathlib.Omega.{arith}
+use Rattle.words.specs.Words.{words, all_zero}
+use Rattle.area.specs.Layout.{most_rows}
+use Rattle.area.specs.Parts.{zero_rows}
+use Rattle.area.proofs.CheckLaws.{zero_more}
+use Rattle.area.proofs.check.rest_unused.Invariants.{Passed}
+use Rattle.area.proofs.check.rest_unused.Goals as goal
+
+abbrev stride : ℕ
+stride = 8
+
+module _ (ws : List ℕ) (used i : ℕ) (p : Passed ws used i) where
+  -- k rows more
+  more : (k : ℕ) → k ≤ most_rows - i → zero_rows ws i k ≡ true → Passed ws used (i + k)
+  more k h e =
+      let b = p.0 in
+      let q : most_rows - i - k ≡ most_rows - (i + k) = omega arith in
+      (omega arith, p.1 ∙ zero_more ws i k (most_rows - i) true e h ∙ ap (zero_rows ws (i + k)) q)
+
+  broken : (k : ℕ) → k ≤ most_rows - i → zero_rows ws i k ≡ false → false ≡ zero_rows ws used (most_rows - used)
+  broken k h e = sym (p.1 ∙ zero_more ws i k (most_rows - i) false e h)
+
+  all-passed : most_rows ≤ i → true ≡ zero_rows ws used (most_rows - used)
+  unfolding zero_rows all_zero
+  all-passed h = let q : most_rows - i ≡ 0 = omega arith in sym (p.1 ∙ ap (zero_rows ws i) q)
+
+pub returns-then-not-are_unused : goal.returns-then-not-are_unused
+returns-then-not-are_unused c =
+    let at = c.loop-i in
+    let s = c in
+    broken (words s.args.a.now) s.args.used at.i at.invariant stride (search rules) (sym c.are_unused.ensures ∙ not-true _ c.if-not-are_unused.true-raw)
+
+pub loop-i-preserved : goal.loop-i-preserved
+loop-i-preserved c =
+    let at = c.loop-i in
+    let s = c in
+    more (words s.args.a.now) s.args.used at.i at.invariant stride (search rules) (sym c.are_unused.ensures ∙ not-false _ c.if-not-are_unused.false-raw)
+
+pub returns-then-not-are_unused-2 : goal.returns-then-not-are_unused-2
+returns-then-not-are_unused-2 c =
+    let at = c.loop-i-2 in
+    let s = c in
+    broken (words s.args.a.now) s.args.used at.i at.invariant 1 (search rules) (sym c.are_unused-in-loop-i-2.ensures ∙ not-true _ c.if-not-are_unused-2.true-raw)
+
+pub loop-i-2-preserved : goal.loop-i-2-preserved
+loop-i-2-preserved c =
+    let at = c.loop-i-2 in
+    let s = c in
+    more (words s.args.a.now) s.args.used at.i at.invariant 1 (search rules) (sym c.are_unused-in-loop-i-2.ensures ∙ not-false _ c.if-not-are_unused-2.false-raw)
+
+pub returns : goal.returns
+returns c =
+    let at = c.loop-i-2 in
+    let s = c in
+    all-passed (words s.args.a.now) s.args.used at.i at.invariant (search rules)
+
+pub loop-i-init : goal.loop-i-init
+loop-i-init c = (search rules, refl)
+
+pub loop-i-2-init : goal.loop-i-2-init
+loop-i-2-init c = c.loop-i.invariant

@@ -1,0 +1,28 @@
+use borrow.Author.Rules.{rules}
+use borrow.Author.Tests.{not-true, not-false}
+use mathlib.Core.Path.{◌≡◌, refl, sym, ap, ◌∙◌}
+use mathlib.Core.Bool.{true, false}
+use mathlib.Core.List.{List}
+use Prim.Native.Nat.{ℕ, ◌+◌, ◌-◌, ◌≤◌}
+use native.Mathlib.Omega.{arith}
+use Rattle.words.specs.Words.{words, all_zero}
+use Rattle.area.specs.Layout.{most_rows}
+use Rattle.area.specs.Parts.{zero_rows}
+use Rattle.area.proofs.CheckLaws.{zero_more}
+use Rattle.area.proofs.check.rest_unused.Given as goal
+
+-- the rows before row i are passed
+abbrev pub Passed : List ℕ → ℕ → ℕ → Type 0
+Passed ws used i = (i ≤ most_rows) × (zero_rows ws used (most_rows - used) ≡ zero_rows ws i (most_rows - i))
+
+abbrev pub invariant-loop-i : goal.invariant-loop-i
+invariant-loop-i l = Passed (words l.a) l.used l.i
+
+abbrev pub decreases-loop-i : goal.decreases-loop-i
+decreases-loop-i l = most_rows - l.i
+
+abbrev pub invariant-loop-i-2 : goal.invariant-loop-i-2
+invariant-loop-i-2 l = Passed (words l.a) l.used l.i
+
+abbrev pub decreases-loop-i-2 : goal.decreases-loop-i-2
+decreases-loop-i-2 l = most_rows - l.i

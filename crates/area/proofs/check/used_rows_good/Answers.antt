@@ -1,0 +1,121 @@
+-- `check::used_rows_good` meets its contract: the rows passed are good, `last` is the permission before. Assumes nothing.
+use borrow.Author.Rules.{rules}
+use borrow.Author.Tests.{not-true, not-false}
+use mathlib.Core.Path.{◌≡◌, refl, sym, ◌∙◌, subst⁻¹}
+use mathlib.Core.Bool.{Bool, true, false, ◌&&◌}
+use mathlib.Core.List.{List}
+use Prim.Native.Nat.{ℕ, ◌+◌, ◌*◌, ◌-◌, ◌≤◌, ◌<◌}
+use native.Mathlib.Omega.{arith}
+use lib.Dec.{T, ltb, leb, leb→le}
+use lib.ListN.{take, drop}
+use Rattle.words.specs.Words.{words}
+use Rattle.meaning.specs.Rows.{most_opens}
+use Rattle.opens.specs.Opens.{body_good, few_opens}
+use Rattle.opens.proofs.Halves.{half-fails, halves-pass}
+use Rattle.area.specs.Layout.{most_rows, body_words, bodies_at, permission_before, each_below, good_row_at}
+use Rattle.area.specs.Parts.{good_but_wide}
+use Rattle.area.proofs.CheckLaws.{area-spans, permission-word, row_made, each_more, each-broken, before_more, rows_made, row-fails}
+use Rattle.area.proofs.check.used_rows_good.Goals.{After-struct_known-in-loop-i-1}
+use Rattle.area.proofs.check.used_rows_good.Goals as goal
+
+-- ---- the row at hand, once its words are read
+
+module _ (c : After-struct_known-in-loop-i-1) where
+  abbrev start : After-struct_known-in-loop-i-1
+  start = c
+
+  abbrev i : ℕ
+  i = c.loop-i.i
+
+  abbrev ws : List ℕ
+  ws = words start.args.a.now
+
+  abbrev count : ℕ
+  count = c.get_word-count.result
+
+  abbrev denied : ℕ
+  denied = c.get_word.result
+
+  -- the tests that need no open set
+  abbrev first : Bool
+  first =
+      (ltb c.loop-i.last c.get_word-p.result && leb count most_opens) && leb denied start.args.all.bits
+
+  abbrev good : Bool
+  good = body_good start.args.all.bits denied count (take most_opens (drop (bodies_at + i * body_words + 1) ws))
+
+  used-row : i < start.args.used
+  used-row = search rules
+
+  row : i < most_rows
+  row = let h = used-row in let k = start.requires.1 in omega arith
+
+  made : (b : Bool) → first ≡ b → (b && good) ≡ good_but_wide ws i
+  made b e =
+      let at = c.loop-i in
+      row_made ws i row b c.get_word-p.ensures c.get_word-count.ensures c.get_word.ensures at.invariant.2 start.requires.2 e refl
+
+  fails : good_but_wide ws i ≡ false → false ≡ each_below start.args.used (good_row_at ws)
+  fails e = each-broken (good_row_at ws) i start.args.used used-row (row-fails ws i e)
+
+second : (x y z : Bool) → ((x && y) && z) ≡ true → T y
+second true true z e = tt
+second true false z e = subst⁻¹ T e tt
+second false y z e = absurd (subst⁻¹ T e tt)
+
+-- what passes the first tests has at most 15 open sets
+few-enough : (c : After-struct_known-in-loop-i-1) → first c ≡ true → count c ≤ most_opens
+few-enough c e = leb→le (count c) most_opens (second (ltb c.loop-i.last c.get_word-p.result) (leb (count c) most_opens) (leb (denied c) (start c).args.all.bits) e)
+
+pub returns-then-not-ok : goal.returns-then-not-ok
+returns-then-not-ok c = fails (goal.at.returns-then-not-ok c).After-struct_known-in-loop-i-1 (sym (made (goal.at.returns-then-not-ok c).After-struct_known-in-loop-i-1 false (not-true _ c.if-not-ok.true-raw)))
+
+pub places_few-requires : goal.places_few-requires
+places_few-requires c = let h = row (goal.at.places_few-requires c).After-struct_known-in-loop-i-1 in area-spans _ _ (start (goal.at.places_few-requires c).After-struct_known-in-loop-i-1).pre.0 (omega arith)
+
+pub returns-then-not-places_few : goal.returns-then-not-places_few
+returns-then-not-places_few c =
+    let e = c in
+    let g = e in
+    fails (goal.at.returns-then-not-places_few g).After-struct_known-in-loop-i-1 (sym (made (goal.at.returns-then-not-places_few g).After-struct_known-in-loop-i-1 true (not-false _ e.if-not-ok.false-raw)) ∙ half-fails (ltb few_opens (count (goal.at.returns-then-not-places_few g).After-struct_known-in-loop-i-1)) (good (goal.at.returns-then-not-places_few g).After-struct_known-in-loop-i-1) (sym (not-true _ c.if-not-places_few.true-raw) ∙ c.places_few.ensures))
+
+pub places_many-requires : goal.places_many-requires
+places_many-requires c =
+    let e = c in
+    let g = e in
+    let h = row (goal.at.places_many-requires g).After-struct_known-in-loop-i-1 in
+    (area-spans _ _ (start (goal.at.places_many-requires g).After-struct_known-in-loop-i-1).requires.0 (omega arith), few-enough (goal.at.places_many-requires g).After-struct_known-in-loop-i-1 (not-false _ e.if-not-ok.false-raw))
+
+pub returns-then-not-places_many : goal.returns-then-not-places_many
+returns-then-not-places_many c =
+    let e = c in
+    let g = e in
+    fails (goal.at.returns-then-not-places_many g).After-struct_known-in-loop-i-1 (sym (made (goal.at.returns-then-not-places_many g).After-struct_known-in-loop-i-1 true (not-false _ e.if-not-ok.false-raw)) ∙ half-fails (leb (count (goal.at.returns-then-not-places_many g).After-struct_known-in-loop-i-1) few_opens) (good (goal.at.returns-then-not-places_many g).After-struct_known-in-loop-i-1) (sym (not-true _ c.if-not-places_many.true-raw) ∙ c.places_many.ensures))
+
+pub loop-i-preserved : goal.loop-i-preserved
+loop-i-preserved c =
+    let f = c in
+    let e = f in
+    let g = e in
+    let at = g.loop-i in
+    let passes = halves-pass (count (goal.at.loop-i-preserved g).After-struct_known-in-loop-i-1) (good (goal.at.loop-i-preserved g).After-struct_known-in-loop-i-1) (sym (not-false _ f.if-not-places_few.false-raw) ∙ f.places_few.ensures) (sym (not-false _ c.if-not-places_many.false-raw) ∙ c.places_many.ensures) in (
+      search rules,
+      each_more (good_but_wide (ws (goal.at.loop-i-preserved g).After-struct_known-in-loop-i-1)) (i (goal.at.loop-i-preserved g).After-struct_known-in-loop-i-1) at.invariant.1 (sym passes ∙ made (goal.at.loop-i-preserved g).After-struct_known-in-loop-i-1 true (not-false _ e.if-not-ok.false-raw)),
+      before_more (ws (goal.at.loop-i-preserved g).After-struct_known-in-loop-i-1) (i (goal.at.loop-i-preserved g).After-struct_known-in-loop-i-1) (g.get_word-p.ensures ∙ permission-word (ws (goal.at.loop-i-preserved g).After-struct_known-in-loop-i-1) (i (goal.at.loop-i-preserved g).After-struct_known-in-loop-i-1) (row (goal.at.loop-i-preserved g).After-struct_known-in-loop-i-1)),
+    )
+
+pub returns : goal.returns
+returns c =
+    let at = c.loop-i in
+    let s = c in
+    let e : at.i ≡ s.args.used = omega arith in
+    rw e at (rows_made (words s.args.a.now) at.i at.last at.invariant.2 at.invariant.1)
+
+pub get_word-p-requires : goal.get_word-p-requires
+get_word-p-requires c = area-spans _ _ c.requires.0 (search rules)
+
+pub get_word-count-requires : goal.get_word-count-requires
+get_word-count-requires c = area-spans _ _ c.requires.0 (search rules)
+
+pub get_word-requires : goal.get_word-requires
+get_word-requires c = area-spans _ _ c.requires.0 (search rules)

@@ -1,0 +1,24 @@
+-- `cache::enter_row` meets its contract. Assumes nothing.
+use borrow.Author.Rules.{rules}
+use mathlib.Core.Path.{sym, ◌∙◌}
+use Rattle.cache.proofs.enter_row.Goals as goal
+
+pub enter_over-requires : goal.enter_over-requires
+enter_over-requires c =
+    let i = c in
+    let f = i in
+    let s = f in
+    (s.requires.0, sym f.find.ensures ∙ i.in-At.is, s.requires.1)
+
+pub enter_new-requires : goal.enter_new-requires
+enter_new-requires c =
+    let i = c in
+    let f = i in
+    let s = f in
+    (s.requires.0, sym f.find.ensures ∙ i.in-Vacant.is, s.requires.1)
+
+pub returns-in-At : goal.returns-in-At
+returns-in-At c = c.enter_over.ensures
+
+pub returns-in-Vacant : goal.returns-in-Vacant
+returns-in-Vacant c = c.enter_new.ensures

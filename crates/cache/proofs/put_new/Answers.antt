@@ -1,0 +1,125 @@
+-- `cache::put_new` meets its contract. Assumes nothing.
+use borrow.Author.Rules.{rules}
+use mathlib.Core.Path.{◌≡◌, refl, sym, ap, ◌∙◌}
+use mathlib.Core.Bool.{Bool, true, false, cond}
+use mathlib.Core.List.{List}
+use Prim.Native.Nat.{ℕ, ◌≤◌, ◌<◌}
+use native.Mathlib.Omega.{arith}
+use lib.ListN.{length}
+use Rattle.words.specs.Words.{Bytes}
+use Rattle.meaning.specs.declared.Happening.{Happening}
+use Rattle.meaning.specs.Events.{is_reply}
+use Rattle.meaning.specs.Rows.{Row, blank, fits, contradicts, step}
+use Rattle.area.specs.Layout.{most_rows, area_bytes}
+use Rattle.area.specs.State.{is_blank, row_for, with_row, words_of, state_of, area_of}
+use Rattle.rows.specs.Stored.{row_of}
+use Rattle.rows.specs.declared.Row as value
+use Rattle.rows.proofs.Padded.{stored⇒row}
+use Rattle.table.specs.Table.{rows_in, Sound, found_for}
+use Rattle.table.specs.declared.Found.TheVariants.{Vacant}
+use Rattle.calls.specs.declared.Answer.{Answer}
+use Rattle.calls.specs.declared.Answer.TheVariants.{Recorded}
+use Rattle.calls.specs.Calls.{Out, stays}
+use Rattle.calls.specs.Answers.{number_of, Gives}
+use Rattle.cache.specs.Fresh.{Fresh}
+use Rattle.roles.proofs.Tests.{T_true, T_false}
+use Rattle.cache.proofs.Places.{bytes-are}
+use Rattle.calls.proofs.CallLaws.{fits_in-blank, fits_in-room, fits_in-none, event-unfit, event-recorded}
+use Rattle.cache.specs.Here.{event_here}
+use Rattle.cache.proofs.Ladder.{gives}
+use Rattle.cache.proofs.Writes.{place_inside, row-none, event-none, state-new, area-kept, fitting-tidy}
+use Rattle.cache.proofs.put_new.Goals.{Start}
+use Rattle.cache.proofs.put_new.Goals as goal
+
+-- ---- the cases
+
+module _ (l : List ℕ) (s : Sound l) (p i : ℕ) (e : Happening) (w : value.Row) (f : found_for p (rows_in l) ≡ Vacant i) (h : Fresh e w) where
+  clear : contradicts e blank ≡ false
+  clear = T_false (contradicts e blank) h.agrees
+
+  room : fits (step e blank) ≡ true
+  room = T_true (fits (step e blank)) h.room
+
+  same : row_of w ≡ step e blank
+  same = stored⇒row w (step e blank) h.row
+
+  empty : is_blank (row_for p (rows_in l)) ≡ true
+  empty = ap is_blank (row-none l s p i f)
+
+  nothing : Bytes l → is_blank (row_of w) ≡ true → Gives (event_here l p e) Recorded l
+  nothing bytes b =
+      let q = sym (ap is_blank same) ∙ b in
+      gives (event_here l p e) Recorded l
+      (event-none l s p i f e ∙ event-recorded l (state_of l) p e blank clear (fits_in-blank (state_of l) p (step e blank) room q) ∙ ap (stays 0) (area-kept l s p i f (step e blank) q bytes))
+
+  either : (b : Bool) → cond b (stays 7 l) (stays 8 l) ≡ stays (cond b 7 8) l
+  either true = refl
+  either false = refl
+
+  no_more : Bytes l → is_blank (row_of w) ≡ false → most_rows ≤ length (rows_in l) → (r : Answer) → number_of r ≡ cond (is_reply e) 7 8 → Gives (event_here l p e) r l
+  no_more bytes b m r q =
+      gives (event_here l p e) r l
+      (event-none l s p i f e
+      ∙ event-unfit l (state_of l) p e blank clear (fits_in-none (state_of l) p (step e blank) room empty (sym (ap is_blank same) ∙ b) m)
+      ∙ ap (λ (o : Out). cond (is_reply e) (stays 7 l) o) (ap (stays 8) (area-kept l s p i f blank refl bytes))
+      ∙ either (is_reply e)
+      ∙ ap (λ (a : ℕ). stays a l) (sym q))
+
+  made : (m : List ℕ) → length (rows_in l) < most_rows → m ≡ area_of (with_row (state_of l) p (row_of w)) → Gives (event_here l p e) Recorded m
+  made m u q =
+      gives (event_here l p e) Recorded m
+      (event-none l s p i f e
+      ∙ event-recorded l (state_of l) p e blank clear (fits_in-room (state_of l) p (step e blank) room u)
+      ∙ ap (stays 0) (sym (q ∙ ap (λ (x : Row). area_of (with_row (state_of l) p x)) same)))
+
+-- ---- the needs
+
+pub is_blank-requires : goal.is_blank-requires
+is_blank-requires c =
+    let s = c in
+    fitting-tidy s.args.w _ s.requires.2.row (T_true _ s.requires.2.room)
+
+pub returns-then-is_blank : goal.returns-then-is_blank
+returns-then-is_blank c =
+    let b = c in
+    let s = b in
+    nothing s.args.a.now s.requires.0 s.args.p s.args.i s.args.e s.args.w s.requires.1 s.requires.2
+    (λ p. (b.slice_known-1.given p).fits) (sym b.is_blank.ensures ∙ c.if-is_blank.true)
+
+pub returns-then-rows_used-eq-MOST_ROWS : goal.returns-then-rows_used-eq-MOST_ROWS
+returns-then-rows_used-eq-MOST_ROWS c =
+    let t = c in
+    let u = t in
+    let o = u in
+    let b = o in
+    let s = b in
+    let l = s.args.a.now in
+    no_more l s.requires.0 s.args.p s.args.i s.args.e s.args.w s.requires.1 s.requires.2
+    (λ p. (b.slice_known-1.given p).fits) (sym b.is_blank.ensures ∙ o.if-is_blank.false)
+    (omega (arith, u.rows_used.ensures, t.if-rows_used-eq-MOST_ROWS.true)) c.no_room.result c.no_room.ensures
+
+pub insert_at-requires : goal.insert_at-requires
+insert_at-requires c =
+    let t = c in
+    let u = t in
+    let b = u in
+    let s = b in
+    let l = s.args.a.now in
+    let few : length (rows_in l) < most_rows = omega (arith, u.rows_used.ensures, t.if-rows_used-eq-MOST_ROWS.false, s.requires.0.few) in
+    (s.requires.0, place_inside l s.requires.0 s.args.p s.args.i s.requires.1, few, is-blank-requires (goal.at.insert_at-requires b).Start tt)
+
+pub returns : goal.returns
+returns c =
+    let w = c in
+    let t = w in
+    let u = t in
+    let o = u in
+    let b = o in
+    let s = b in
+    let l = s.args.a.now in
+    let few : length (rows_in l) < most_rows = omega (arith, u.rows_used.ensures, t.if-rows_used-eq-MOST_ROWS.false, s.requires.0.few) in
+    let end = w.insert_at.new.a in
+    let len : length end ≡ area_bytes = search rules in
+    made l s.requires.0 s.args.p s.args.i s.args.e s.args.w s.requires.1 s.requires.2 end few
+    (bytes-are end _ (λ p. (c.slice_known-2-1.given p).fits) len
+    (w.insert_at.ensures ∙ ap words_of (state-new l s.requires.0 s.args.p s.args.i s.requires.1 (row_of s.args.w) (sym b.is_blank.ensures ∙ o.if-is_blank.false))))

@@ -1,0 +1,14 @@
+-- `cache::set_known` meets its contract. Assumes nothing.
+use borrow.Author.Rules.{rules}
+use mathlib.Core.Path.{ap, ◌∙◌}
+use Prim.Native.Nat.{ℕ}
+use native.Mathlib.Omega.{arith}
+use Rattle.roles.specs.Sets.{part_of}
+use Rattle.roles.proofs.Laws.{below64-all_below}
+use Rattle.roles.proofs.Naming.{part-test}
+use Rattle.cache.proofs.set_known.Goals as goal
+
+pub returns : goal.returns
+returns c =
+    let s = c in
+    part-test _ _ (omega arith) c.outside.ensures ∙ ap (λ (t : ℕ). part_of s.args.s.bits t) (c.all_below.ensures ∙ below64-all_below s.args.n s.requires)

@@ -1,0 +1,6 @@
+-- `cache::unseen` meets its contract. Assumes nothing.
+use borrow.Author.Rules.{rules}
+use Rattle.cache.proofs.unseen.Goals as goal
+
+pub returns : goal.returns
+returns c = record { decided = c.bare.ensures; row = c.blank.ensures }

@@ -1,0 +1,7 @@
+-- `listing::is_free` meets its contract. Assumes nothing.
+use borrow.Author.Rules.{rules}
+use Rattle.listing.proofs.Writing.{free-is}
+use Rattle.listing.proofs.is_free.Goals as goal
+
+pub returns : goal.returns
+returns c = let a = c.args in free-is a.table.now a.r

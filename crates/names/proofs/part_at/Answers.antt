@@ -1,0 +1,37 @@
+-- `names::part_at` meets its contract. Assumes nothing.
+use borrow.Author.Rules.{rules}
+use mathlib.Core.Path.{sym, ap, ◌∙◌}
+use Prim.Native.Nat.{ℕ, ◌+◌}
+use native.Mathlib.Omega.{arith}
+use Rattle.names.proofs.TableLaws.{good-long, length-is, start_is, part_none, part-inside, part-is}
+use Rattle.names.proofs.part_at.Goals as goal
+
+pub half-start-requires : goal.half-start-requires
+half-start-requires c = let s = c in let h = good-long s.args.t.now s.requires.0 in omega arith
+
+pub half-n-requires : goal.half-n-requires
+half-n-requires c = let s = c in let h = good-long s.args.t.now s.requires.0 in omega arith
+
+pub returns-then-n-eq0 : goal.returns-then-n-eq0
+returns-then-n-eq0 c =
+    let h = c in
+    let a = h.args in
+    record {
+      bytes = part_none a.t.now a.r h.half-start.result h.half-n.result h.half-start.ensures.0 h.half-n.ensures.0 c.if-n-eq0.true;
+      place = λ n. absurd (n (sym (length-is a.t.now a.r h.half-start.result h.half-n.result h.half-start.ensures.0 h.half-n.ensures.0) ∙ c.if-n-eq0.true));
+    }
+
+-- TODO part-result-end : tie.Need-slice-bounds-result-end
+-- TODO part-result-end c =
+-- TODO     let h = c.before in
+-- TODO     let s = h.before.before.before in
+-- TODO     part-inside s.args.t.now s.args.r h.before.half.result h.half2.result h.before.half.ensures.0 h.half2.ensures.0 s.requires.0 s.requires.1 c.if1.false
+
+pub returns : goal.returns
+returns c =
+    let h = c in
+    let a = h.args in
+    record {
+      bytes = part-is a.t.now a.r h.half-start.result h.half-n.result h.half-start.ensures.0 h.half-n.ensures.0;
+      place = λ n. ap (λ (x : ℕ). (a.t.ref_ptr.0, x + a.t.ref_ptr.1)) (start_is a.t.now a.r h.half-start.result h.half-n.result h.half-start.ensures.0 h.half-n.ensures.0);
+    }

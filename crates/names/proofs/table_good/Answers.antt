@@ -1,0 +1,38 @@
+-- `names::table_good` meets its contract: the pairs passed are good. Assumes nothing.
+use borrow.Author.Rules.{rules}
+use borrow.Author.Tests.{not-true, not-false}
+use mathlib.Core.Path.{◌≡◌, sym, ◌∙◌}
+use mathlib.Core.Bool.{true, false}
+use Prim.Native.Nat.{◌-◌, ◌≤◌}
+use native.Mathlib.Numerals.{add-one}
+use native.Mathlib.Omega.{arith}
+use lib.ListN.{length}
+use Rattle.roles.specs.Sets.{most_roles}
+use Rattle.names.specs.Names.{contents_bytes, good_pairs}
+use Rattle.names.proofs.TableLaws.{pairs-none, pairs-more, pairs-broken, table-short, table_is}
+use Rattle.names.proofs.table_good.Goals as goal
+
+pub returns-then-t-lt-CONTENTS_BYTES : goal.returns-then-t-lt-CONTENTS_BYTES
+returns-then-t-lt-CONTENTS_BYTES c = table-short c.args.t.now c.if-t-lt-CONTENTS_BYTES.true
+
+pub loop-r-init : goal.loop-r-init
+loop-r-init c = (search rules, c.if-t-lt-CONTENTS_BYTES.false, pairs-none c.args.t.now)
+
+pub returns-then-not-pair_good : goal.returns-then-not-pair_good
+returns-then-not-pair_good c =
+    let l = c.loop-r in
+    let t = c.args.t.now in
+    table_is t false l.invariant.1 (pairs-broken t l.r most_roles (omega arith) (sym c.pair_good.ensures ∙ not-true _ c.if-not-pair_good.true-raw))
+
+pub loop-r-preserved : goal.loop-r-preserved
+loop-r-preserved c =
+    let l = c.loop-r in
+    let t = c.args.t.now in
+    (omega arith, l.invariant.1, rw add-one (pairs-more t l.r l.invariant.2 (sym c.pair_good.ensures ∙ not-false _ c.if-not-pair_good.false-raw)))
+
+pub returns : goal.returns
+returns c =
+    let l = c.loop-r in
+    let t = c.args.t.now in
+    let e : l.r ≡ most_roles = omega arith in
+    table_is t true l.invariant.1 (rw e at l.invariant.2)

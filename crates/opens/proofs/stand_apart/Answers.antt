@@ -1,0 +1,58 @@
+-- `opens::stand_apart` meets its contract: the sets passed stand apart. Assumes nothing.
+use borrow.Author.Rules.{rules}
+use mathlib.Core.Path.{◌≡◌, refl, sym, ap, ap₂, ◌∙◌}
+use mathlib.Core.Bool.{Bool, true, false, not, ◌&&◌}
+use Prim.Native.Nat.{ℕ, ◌+◌, ◌-◌, ◌<◌}
+use native.Mathlib.Omega.{arith}
+use lib.ListN.{length, get_or, take, drop}
+use Rattle.words.specs.Words.{words}
+use Rattle.words.proofs.Laws.{length-words}
+use Rattle.words.proofs.Runs.{spans-again, run_take}
+use Rattle.meaning.specs.Rows.{has_part}
+use Rattle.opens.specs.Parts.{stand_apart}
+use Rattle.opens.proofs.OpensLaws.{apart-one, apart-fewer, apart-broken, apart-first}
+use Rattle.opens.proofs.stand_apart.Goals.{After-has_part}
+use Rattle.opens.proofs.stand_apart.Goals as goal
+
+-- with one set more, by what the search found
+apart_next : (c : After-has_part) (t : Bool) → let s = c.args in let i = c.loop-i.i in
+    c.has_part.result ≡ t → stand_apart (take (i + 1) (drop s.at (words s.a.now))) ≡ not t
+apart_next c t e =
+    let at = c.loop-i in
+    let s = c in
+    let ws = words s.args.a.now in
+    let o = c.get_word in
+    let h = s.requires.enough in
+    let before = take at.i (drop s.args.at ws) in
+    let b : s.args.at + at.i < length ws = omega (arith, length-words s.args.a.now) in
+    ap stand_apart (run_take ws s.args.at at.i b)
+    ∙ apart-one before (get_or ws (s.args.at + at.i) 0)
+    ∙ ap₂ (λ (p q : Bool). p && not q) at.invariant (ap (λ (x : ℕ). has_part x before) (sym o.ensures) ∙ sym c.has_part.ensures ∙ e)
+
+pub loop-i-init : goal.loop-i-init
+loop-i-init c = apart-first (drop c.args.at (words c.args.a.now))
+
+pub get_word-requires : goal.get_word-requires
+get_word-requires c =
+    let p = c.requires in
+    spans-again p refl (let h = p.enough in omega arith)
+
+pub has_part-requires : goal.has_part-requires
+has_part-requires c =
+    let p = c.requires in
+    spans-again p refl (let h = p.enough in omega arith)
+
+pub returns-then-has_part : goal.returns-then-has_part
+returns-then-has_part c =
+    let at = c.loop-i in
+    let s = c in
+    apart-broken (at.i + 1) s.args.c (drop s.args.at (words s.args.a.now)) (search rules) (apart_next (goal.at.returns-then-has_part c).After-has_part true c.if-has_part.true)
+
+pub loop-i-preserved : goal.loop-i-preserved
+loop-i-preserved c = apart_next (goal.at.loop-i-preserved c).After-has_part false c.if-has_part.false
+
+pub returns : goal.returns
+returns c =
+    let at = c.loop-i in
+    let s = c in
+    sym (apart-fewer s.args.c at.i (drop s.args.at (words s.args.a.now)) (search rules) at.invariant)

@@ -1,0 +1,29 @@
+-- `print::write::write_denied` meets its contract. Assumes nothing.
+use borrow.Author.Rules.{rules}
+use mathlib.Core.Path.{◌≡◌, ap, ◌∙◌}
+use mathlib.Core.List.{append-nil}
+use Prim.Native.Nat.{ℕ}
+use native.Mathlib.Omega.{arith}
+use lib.ListN.{length}
+use Rattle.text.proofs.WriteLaws.{wrote_nothing}
+use Rattle.requests.specs.Request.{letter_d}
+use Rattle.print.specs.Printed.{denials, tells, lines_text}
+use Rattle.print.specs.Lines.{reply_line}
+use Rattle.print.proofs.LineLaws.{none-denied, some-denied}
+use Rattle.print.proofs.write.write_denied.Goals as goal
+
+one_line : (p d g : ℕ) → (d ≡ 0 → ⊥) → lines_text (tells p (denials d) g) ≡ reply_line letter_d p d g
+one_line p d g e = some-denied p d g e ∙ append-nil (reply_line letter_d p d g)
+
+pub returns-then-d-eq0 : goal.returns-then-d-eq0
+returns-then-d-eq0 c = let s = c in rw (none-denied s.args.p s.args.d.bits s.args.g c.if-d-eq0.true) (wrote_nothing s.args.out.now 0)
+
+pub write_reply-requires : goal.write_reply-requires
+write_reply-requires c =
+    let s = c in
+    omega (arith, s.requires, ap length (one_line s.args.p s.args.d.bits s.args.g c.if-d-eq0.false))
+
+pub returns : goal.returns
+returns c =
+    let s = c in
+    rw (one_line s.args.p s.args.d.bits s.args.g c.if-d-eq0.false) c.write_reply.ensures

@@ -1,0 +1,21 @@
+-- `requests::allow_of` meets its contract. Assumes nothing.
+use borrow.Author.Rules.{rules}
+use mathlib.Core.Path.{sym, ◌∙◌}
+use Rattle.meaning.specs.declared.Happening.TheVariants.{Allow}
+use Rattle.requests.specs.Request.{told, in_state, by_letter}
+use Rattle.requests.specs.declared.Request.TheVariants.{Unreadable}
+use Rattle.requests.proofs.Made.{of-permission-set}
+use Rattle.requests.proofs.allow_of.Goals as goal
+
+pub returns-in_default : goal.returns-in_default
+unfolding by_letter
+returns-in_default c =
+    let line = c.args.line.now in
+    of-permission-set Unreadable line (λ p s. in_state (told p (Allow s))) 1 (sym c.in_default.is ∙ c.permission_set.ensures)
+
+pub returns : goal.returns
+unfolding by_letter
+returns c =
+    let d = c in
+    let line = d.args.line.now in
+    c.told_of.ensures ∙ of-permission-set Unreadable line (λ p s. in_state (told p (Allow s))) 1 (sym d.in-Read.is ∙ d.permission_set.ensures)

@@ -1,0 +1,19 @@
+-- `requests::forget_of` meets its contract. Assumes nothing.
+use borrow.Author.Rules.{rules}
+use mathlib.Core.Path.{sym, ◌∙◌}
+use native.Mathlib.Omega.{arith}
+use Rattle.requests.specs.Request.{by_letter}
+use Rattle.requests.specs.declared.Request.TheVariants.{Forget, Unreadable}
+use Rattle.requests.proofs.Made.{of-last, last-small}
+use Rattle.requests.proofs.forget_of.Goals as goal
+
+pub returns-in_default : goal.returns-in_default
+unfolding by_letter
+returns-in_default c = of-last Unreadable Forget _ _ (sym c.in_default.is ∙ c.last_number.ensures)
+
+pub returns : goal.returns
+unfolding by_letter
+returns c = of-last Unreadable Forget _ _ (sym c.in-Value.is ∙ c.last_number.ensures)
+
+pub overflow_cast-result : goal.overflow_cast-result
+overflow_cast-result c = omega (arith, last-small _ _ _ (sym c.in-Value.is ∙ c.last_number.ensures))

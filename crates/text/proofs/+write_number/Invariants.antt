@@ -1,0 +1,5 @@
+use Rattle.text.proofs.+write_number.Given as goal
+
+-- the number falls
+abbrev pub decreases-write_number : goal.decreases-write_number
+decreases-write_number l = l.v

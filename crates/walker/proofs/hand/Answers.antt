@@ -1,0 +1,61 @@
+-- `walker::hand` meets its contract. Assumes nothing.
+use borrow.Author.Rules.{rules}
+use mathlib.Core.Path.{◌≡◌, sym, ◌∙◌}
+use mathlib.Core.Bool.{true, false}
+use mathlib.Core.Logic.{⊎_elim}
+use Prim.Native.Nat.{ℕ, ◌+◌}
+use native.Mathlib.Omega.{arith}
+use Rattle.meaning.specs.Rows.{blank}
+use Rattle.area.specs.State.{Entry}
+use Rattle.rows.specs.Stored.{stored_row}
+use Rattle.rows.specs.declared.Row.{Row}
+use Rattle.table.specs.Table.{rows_in, nth}
+use Rattle.walker.specs.Walk.{given, none}
+use Rattle.walker.specs.declared.Handed.{Handed}
+use Rattle.walker.proofs.WalkLaws.{walk-row, walk_end, walk-past, permission-valid}
+use Rattle.walker.proofs.hand.Goals.{Then-next-rows_used}
+use Rattle.walker.proofs.hand.Goals as goal
+
+-- ---- the values
+
+handed-row : (i p : ℕ) (w : Row) (e : Entry) → p ≡ e.permission → w ≡ stored_row e.row → ◌≡◌ {A = Handed} (record { some = true; permission = p; row = w; next = i + 1 }) (given i e)
+handed-row i p w e u v = cc
+
+handed-none : (i : ℕ) (w : Row) → w ≡ stored_row blank → ◌≡◌ {A = Handed} (record { some = false; permission = 0; row = w; next = i }) (none i)
+handed-none i w v = cc
+
+-- ---- the needs
+
+pub rows_used-requires : goal.rows_used-requires
+rows_used-requires c = c.requires c.if-next-lt-MOST_ROWS.true
+
+pub permission_at-requires : goal.permission_at-requires
+permission_at-requires c =
+    let t = c in
+    (t.requires t.if-next-lt-MOST_ROWS.true, rw c.rows_used.ensures at c.if-next-rows_used.true)
+
+pub overflow_cast-result : goal.overflow_cast-result
+overflow_cast-result c =
+    let s = c in
+    let k = permission-at-requires (goal.at.overflow_cast-result c).Then-next-rows_used s.lifetimes in
+    let v = permission-valid s.args.a.now k.0 s.args.next k.1 in
+    record { fits = omega (arith, c.permission_at.ensures) }
+
+pub row_at-requires : goal.row_at-requires
+row_at-requires c = permission-at-requires (goal.at.row_at-requires c).Then-next-rows_used κs
+
+pub returns-then-next-rows_used : goal.returns-then-next-rows_used
+returns-then-next-rows_used c =
+    let s = c in
+    let k = permission-at-requires (goal.at.returns-then-next-rows_used c).Then-next-rows_used s.lifetimes in
+    let l = s.args.a.now in
+    let i = s.args.next in
+    handed-row i _ _ (nth i (rows_in l)) c.permission_at.ensures c.row_at.ensures ∙ sym (walk-row l i k.0.good k.1)
+
+pub returns : goal.returns
+returns c =
+    let s = c in
+    let l = s.args.a.now in
+    let i = s.args.next in
+    handed-none i _ c.blank.ensures
+    ∙ sym (⊎_elim (λ k. walk_end l i (s.requires k.0.taken).good (rw k.1.ensures at k.2.left)) (λ k. walk-past l i k.left) c.if-next-lt-MOST_ROWS.branch)
