@@ -37,14 +37,14 @@ returns-in-49-to-57 c =
     let a = c.args in
     c.read_more.ensures
     ∙ ap (number_field a.line.now) (sym (number-first a.limit (drop a.at a.line.now)
-    (sym (byte-there digit_zero a.line.now a.at (search rules)) ∙ ne_eqb (get_or a.line.now a.at 0) digit_zero c.in_default-1.rest.1)
+    (sym (byte-there digit_zero a.line.now a.at (search rules)) ∙ ne_eqb (get_or a.line.now a.at 0) digit_zero c.in-49-to-57.in_default-own.rest.1)
     (sym (digit-there a.line.now a.at (search rules)) ∙ digit-yes _ (omega arith) (omega arith))))
 
 pub returns-in_default : goal.returns-in_default
 returns-in_default c =
     let a = c.args in
     ap (number_field a.line.now) (sym (number-none a.limit (drop a.at a.line.now)
-    (sym (digit-there a.line.now a.at (search rules)) ∙ digit-no _ (λ h k. c.in_default-1.rest.1 (omega arith)))))
+    (sym (digit-there a.line.now a.at (search rules)) ∙ digit-no _ (λ h k. c.in_default.in_default-own.rest.1 (omega arith)))))
 
 pub returns-in_default-2 : goal.returns-in_default-2
 returns-in_default-2 c =
