@@ -13,13 +13,13 @@ use Rattle.requests.proofs.open_of.Goals.{In-Read}
 use Rattle.requests.proofs.open_of.Goals as goal
 
 abbrev line_of : In-Read → List ℕ
-line_of c = c.before.before.before.before.before.args.line.now
+line_of c = c.args.line.now
 
 abbrev count_of : In-Read → ℕ
-count_of c = c.before.value.given.0.0
+count_of c = c.in-Read.value
 
 abbrev next_of : In-Read → ℕ
-next_of c = c.before.value.given.0.1.0
+next_of c = c.in-Read.next
 
 -- what comes of the policy state is what comes of both
 behind : (c : In-Read) → in_state (Open (count_of c)) (drop (next_of c) (line_of c)) ≡ by_letter letter_o (drop 1 (line_of c))

@@ -20,13 +20,13 @@ abbrev read-role : List ℕ → ℕ → List ℕ → PermissionRole
 read-role line p t = number_then role.Bad (λ r u. role.Read p r (length line - length u)) last_role t
 
 abbrev line_of : In-Read → List ℕ
-line_of c = c.before.before.before.before.before.args.line.now
+line_of c = c.args.line.now
 
 abbrev permission-of : In-Read → ℕ
-permission-of c = c.before.value.given.0.0
+permission-of c = c.in-Read.value
 
 abbrev next_of : In-Read → ℕ
-next_of c = c.before.value.given.0.1.0
+next_of c = c.in-Read.next
 
 -- what the fields read as is what comes of the bytes behind the permission
 behind : (c : In-Read) → read-role (line_of c) (permission-of c) (drop (next_of c) (line_of c)) ≡ permission_role_field (line_of c) (drop 1 (line_of c))

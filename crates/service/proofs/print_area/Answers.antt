@@ -71,7 +71,7 @@ loop-end-init c =
     let s = entered (goal.at.loop-end-init e).After-struct_known-1 in (
       refl,
       room (goal.at.loop-end-init e).After-struct_known-1,
-      starts s.args.area.now s.args.out.now s.pre (opening (goal.at.loop-end-init e).After-struct_known-1).print-open.ensures e.if-w-ne0.false c.write_first-sent.result.all c.handed_on-end.ensures,
+      starts s.args.area.now s.args.out.now s.requires (opening (goal.at.loop-end-init e).After-struct_known-1).print-open.ensures e.if-w-ne0.false c.write_first-sent.result.all c.handed_on-end.ensures,
     )
 
 pub returns-then-w-ne0-2 : goal.returns-then-w-ne0-2

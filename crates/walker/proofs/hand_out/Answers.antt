@@ -104,18 +104,18 @@ module _ {M : Type 1} {𝓤 : Ura M} (𝓛 : Logic 𝓤) (mem : Memory → SProp
   abbrev to : (Hand 𝓛 mem run).Ghost
   to = (((κ, tt), (q, tt), tt, (d.area, (d.next, tt)), passed), tt)
 
-  asked : Walkable d.area.now d.next → ent 𝓤 (on_entry 𝓛 hand.signature (κ, tt) (q, tt) (d.area, (d.next, tt)) passed) ((Hand 𝓛 mem run).pre to)
+  asked : Walkable d.area.now d.next → ent 𝓤 (on_entry 𝓛 hand.signature (κ, tt) (q, tt) (d.area, (d.next, tt)) passed) ((Hand 𝓛 mem run).requires to)
   asked fit = qed 𝓛 ((‵ (flft κ q) ⊛ ‵ ftrue) ∷ ‵ (owns (ShrSlice (named 0) κ u8 ∷ usize ∷ []) (d.area, (d.next, tt)) passed) ∷ []) ∵ says ! fit $ frame ! $ done !
 
   -- what the struct owns gives what the callee asks, and is kept
-  apart : Walkable d.area.now d.next → d.next < 2 ^ 64 → ent 𝓤 (on_entry 𝓛 hand-out.signature (κ, tt) (q, tt) (d, tt) (mach ∷ [], tt)) (sep 𝓤 ((Hand 𝓛 mem run).pre to) (sem 𝓛 Own))
+  apart : Walkable d.area.now d.next → d.next < 2 ^ 64 → ent 𝓤 (on_entry 𝓛 hand-out.signature (κ, tt) (q, tt) (d, tt) (mach ∷ [], tt)) (sep 𝓤 ((Hand 𝓛 mem run).requires to) (sem 𝓛 Own))
   apart fit fits =
       qed 𝓛 ((‵ (flft κ q) ⊛ ‵ ftrue) ∷ ‵ (owns (B (κ, tt) ∷ []) (d, tt) (mach ∷ [], tt)) ∷ []) ∵
       move ! (1 ∷ []) $ fsplit ! $ move ! (1 ∷ []) $ drop ! $ use1 𝓛 (‵ Own ⊛ ‵ Own) ((LL.copy D (T'.the_copy (named_lft 1 0 tt (κ, tt))) 𝓛).twice d (mach ∷ [])) $ split ! $
       use1 𝓛 (given (mach ∷ [] ≡ mach ∷ []) (‵ (all_own D.parts L vd))) (own_open 𝓛 D L vd mach) $ learn ! (λ _. use1 𝓛 (‵ (field_own D.parts L 0 d.area) ⊛ ‵ (rest D.parts L 0 vd)) (own_out 𝓛 D.parts L 0 vd) $ split ! $
       -- [what area owns; what next owns; what the struct owns; the token]
       move ! (1 ∷ []) $ drop ! $ nothing ! $ owned ! usize (Is usize) (uint_Makes 𝓛 w64) d.next _ (refl, fits) $ fjoin ! $ move ! (1 ∷ 0 ∷ []) $ fjoin ! $
-      move ! (2 ∷ 0 ∷ []) $ use2 𝓛 (raw ((Hand 𝓛 mem run).pre to)) (asked fit) $ frame ! $ done !)
+      move ! (2 ∷ 0 ∷ []) $ use2 𝓛 (raw ((Hand 𝓛 mem run).requires to)) (asked fit) $ frame ! $ done !)
 
   -- of the callee's `ensured`, the clause alone: it has no `&mut`, so what is said of last values is dropped
   said : (r : Handed) → ent 𝓤 (ensured 𝓛 hand.ended (hand.clauses 𝓛 mem run) (κ, tt) (d.area, (d.next, tt)) tt r) (fact 𝓤 (r ≡ found))
@@ -134,7 +134,7 @@ module _ {M : Type 1} {𝓤 : Ura M} (𝓛 : Logic 𝓤) (mem : Memory → SProp
         alloc1 ! (λ l₀. alloc1 ! (λ l₁. alloc1 ! (λ l₂. alloc1 ! (λ l₃. alloc0 ! $ params1 ! $ pass1 ! (init ! 4 refl wt) $ pass0 ! $
         assigns ! (of_opd ! (load ! (from ! (fld ! refl (stop !))) (look_in ! 4 (sub ! 0 refl (whole !))))) (from ! (stop !)) (init ! 2 refl (tt, wt.1.0)) $
         assigns ! (of_opd ! (load ! (from ! (fld ! refl (stop !))) (look_in ! 4 (sub ! 1 refl (whole !))))) (from ! (stop !)) (init ! 0 refl (tt, wt.1.1.0)) $
-        move ! (8 ∷ []) $ use1 𝓛 (raw ((Hand 𝓛 mem run).pre to) ⊛ ‵ Own) (apart fit wt.1.1.0.fits) $ split ! $
+        move ! (8 ∷ []) $ use1 𝓛 (raw ((Hand 𝓛 mem run).requires to) ⊛ ‵ Own) (apart fit wt.1.1.0.fits) $ split ! $
         calls_at ! fm (Hand 𝓛 mem run) known to (and_then ! (load ! (from ! (stop !)) (look ! 4 refl)) (and_then ! (load ! (from ! (stop !)) (look ! 2 refl)) (no_more !))) (λ u.
         use1 𝓛 (later (some (λ (r : Handed). ((‵ (flft κ q) ⊛ ‵ ftrue) ⊛ ‵ ((S.the_row).own_val r (u ∷ []))) ⊛ raw (ensured 𝓛 hand.ended (hand.clauses 𝓛 mem run) (κ, tt) (d.area, (d.next, tt)) tt r)))) (id⊢ 𝓤 _) $ await ! tt $ pick ! (λ r.
         split ! $ move ! (1 ∷ []) $ use1 𝓛 (raw (fact 𝓤 (r ≡ found))) (said r) $ heard ! (r ≡ found) (λ e. split ! $ move ! (1 ∷ []) $

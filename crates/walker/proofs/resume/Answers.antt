@@ -84,11 +84,11 @@ module _ {M : Type 1} {𝓤 : Ura M} (𝓛 : Logic 𝓤) (mem : Memory → SProp
   abbrev to : (GoOnAt 𝓛 mem run).Ghost
   to = (((κ, tt), (q, tt), tt, (s, (i, tt)), passed), tt)
 
-  goes : ent 𝓤 (on_entry 𝓛 resume.signature (κ, tt) (q, tt) (s, (i, tt)) passed) (sep 𝓤 ((GoOnAt 𝓛 mem run).pre to) (sem 𝓛 Own))
+  goes : ent 𝓤 (on_entry 𝓛 resume.signature (κ, tt) (q, tt) (s, (i, tt)) passed) (sep 𝓤 ((GoOnAt 𝓛 mem run).requires to) (sem 𝓛 Own))
   goes =
       qed 𝓛 ((‵ (flft κ q) ⊛ ‵ ftrue) ∷ ‵ (owns (ShrSlice (named 0) κ u8 ∷ usize ∷ []) (s, (i, tt)) passed) ∷ []) ∵
       move ! (1 ∷ []) $ fsplit ! $ use1 𝓛 (‵ Own ⊛ ‵ Own) ((shr_slice_copy 𝓛 (named 0) κ u8).twice s (v ∷ [])) $ split ! $
-      move ! (0 ∷ 2 ∷ []) $ fjoin ! $ move ! (2 ∷ 0 ∷ []) $ use2 𝓛 (raw ((GoOnAt 𝓛 mem run).pre to)) (qed 𝓛 ((‵ (flft κ q) ⊛ ‵ ftrue) ∷ ‵ (owns (ShrSlice (named 0) κ u8 ∷ usize ∷ []) (s, (i, tt)) passed) ∷ []) ∵ join ! $ frame ! $ done !) $ frame ! $ done !
+      move ! (0 ∷ 2 ∷ []) $ fjoin ! $ move ! (2 ∷ 0 ∷ []) $ use2 𝓛 (raw ((GoOnAt 𝓛 mem run).requires to)) (qed 𝓛 ((‵ (flft κ q) ⊛ ‵ ftrue) ∷ ‵ (owns (ShrSlice (named 0) κ u8 ∷ usize ∷ []) (s, (i, tt)) passed) ∷ []) ∵ join ! $ frame ! $ done !) $ frame ! $ done !
 
   said : (n : ℕ) → ent 𝓤 (ensured 𝓛 go-on-at.ended (go-on-at.clauses 𝓛 mem run) (κ, tt) (s, (i, tt)) tt n) (fact 𝓤 (n ≡ go_on_at s.now i))
   said n = ex_e 𝓤 _ (λ ws. snd∗ 𝓤 (sem 𝓛 (lasts go-on-at.ended (κ, tt) (s, (i, tt)) ws)) (fact 𝓤 (n ≡ go_on_at s.now i)))
@@ -107,7 +107,7 @@ module _ {M : Type 1} {𝓤 : Ura M} (𝓛 : Logic 𝓤) (mem : Memory → SProp
         qed 𝓛 (raw (on_entry 𝓛 resume.signature (κ, tt) (q, tt) (s, (i, tt)) passed) ∷ []) ∵ enter ! C Λ code.function (v ∷ vint w64 i ∷ []) _ $
         alloc1 ! (λ l₀. alloc1 ! (λ l₁. alloc1 ! (λ l₂. alloc1 ! (λ l₃. alloc0 ! $ params1 ! $
         pass1 ! (init ! 4 refl ((shr_slice_Lawful 𝓛 (named 0) κ u8).typed s (v ∷ []) p).0) $ pass1 ! (init ! 2 refl (tt, record { fits = ok })) $ pass0 ! $
-        move ! (8 ∷ []) $ use1 𝓛 (raw ((GoOnAt 𝓛 mem run).pre to) ⊛ ‵ Own) goes $ split ! $
+        move ! (8 ∷ []) $ use1 𝓛 (raw ((GoOnAt 𝓛 mem run).requires to) ⊛ ‵ Own) goes $ split ! $
         calls_at ! fm (GoOnAt 𝓛 mem run) known to (and_then ! (load ! (from ! (stop !)) (look ! 6 refl)) (and_then ! (load ! (from ! (stop !)) (look ! 4 refl)) (no_more !))) (λ u.
         use1 𝓛 (later (some (λ (n : ℕ). ((‵ (flft κ q) ⊛ ‵ ftrue) ⊛ ‵ (usize.own_val n (u ∷ []))) ⊛ raw (ensured 𝓛 go-on-at.ended (go-on-at.clauses 𝓛 mem run) (κ, tt) (s, (i, tt)) tt n)))) (id⊢ 𝓤 _) $ await ! tt $ pick ! (λ n.
         split ! $ move ! (1 ∷ []) $ use1 𝓛 (raw (fact 𝓤 (n ≡ go_on_at s.now i))) (said n) $ heard ! (n ≡ go_on_at s.now i) (λ e. split ! $ move ! (1 ∷ []) $

@@ -90,16 +90,16 @@ module _ {M : Type 1} {𝓤 : Ura M} (𝓛 : Logic 𝓤) (mem : Memory → SProp
   abbrev to : (HandOut 𝓛 mem run).Ghost
   to = (((κ, tt), (q, tt), tt, (made, tt), (T'.lowered made ∷ [], tt)), tt)
 
-  asked : Walkable s.now i → ent 𝓤 (on_entry 𝓛 hand-out.signature (κ, tt) (q, tt) (made, tt) (T'.lowered made ∷ [], tt)) ((HandOut 𝓛 mem run).pre to)
+  asked : Walkable s.now i → ent 𝓤 (on_entry 𝓛 hand-out.signature (κ, tt) (q, tt) (made, tt) (T'.lowered made ∷ [], tt)) ((HandOut 𝓛 mem run).requires to)
   asked fit = qed 𝓛 ((‵ (flft κ q) ⊛ ‵ ftrue) ∷ ‵ (owns (T.the_row α ∷ []) (made, tt) (T'.lowered made ∷ [], tt)) ∷ []) ∵ says ! fit $ frame ! $ done !
 
-  goes : Walkable s.now i → ent 𝓤 (on_entry 𝓛 row_of.signature (κ, tt) (q, tt) (s, (i, tt)) passed) (sep 𝓤 ((HandOut 𝓛 mem run).pre to) (sem 𝓛 Own))
+  goes : Walkable s.now i → ent 𝓤 (on_entry 𝓛 row_of.signature (κ, tt) (q, tt) (s, (i, tt)) passed) (sep 𝓤 ((HandOut 𝓛 mem run).requires to) (sem 𝓛 Own))
   goes fit =
       qed 𝓛 ((‵ (flft κ q) ⊛ ‵ ftrue) ∷ ‵ (owns (ShrSlice (named 0) κ u8 ∷ usize ∷ []) (s, (i, tt)) passed) ∷ []) ∵
       move ! (1 ∷ []) $ fsplit ! $ use1 𝓛 (‵ Own ⊛ ‵ Own) ((shr_slice_copy 𝓛 (named 0) κ u8).twice s (v ∷ [])) $ split ! $
       -- [what area owns, twice; what the number owns; the token]: what the fields own together is what the struct owns
       move ! (0 ∷ 2 ∷ []) $ fjoin ! $ use1 𝓛 (‵ ((T.the_row α).own_val made (T'.lowered made ∷ []))) (own_shut 𝓛 (T.the_type α) (T'.the_laws α) (s, (i, tt))) $
-      nothing ! $ move ! (1 ∷ 0 ∷ []) $ fjoin ! $ move ! (2 ∷ 0 ∷ []) $ use2 𝓛 (raw ((HandOut 𝓛 mem run).pre to)) (asked fit) $ frame ! $ done !
+      nothing ! $ move ! (1 ∷ 0 ∷ []) $ fjoin ! $ move ! (2 ∷ 0 ∷ []) $ use2 𝓛 (raw ((HandOut 𝓛 mem run).requires to)) (asked fit) $ frame ! $ done !
 
   said : (r : Handed) → ent 𝓤 (ensured 𝓛 hand-out.ended (hand-out.clauses 𝓛 mem run) (κ, tt) (made, tt) tt r) (fact 𝓤 (r ≡ found))
   said r = ex_e 𝓤 _ (λ ws. snd∗ 𝓤 (sem 𝓛 (lasts hand-out.ended (κ, tt) (made, tt) ws)) (fact 𝓤 (r ≡ found)))
@@ -117,7 +117,7 @@ module _ {M : Type 1} {𝓤 : Ura M} (𝓛 : Logic 𝓤) (mem : Memory → SProp
         alloc1 ! (λ l₀. alloc1 ! (λ l₁. alloc1 ! (λ l₂. alloc1 ! (λ l₃. alloc0 ! $ params1 ! $
         pass1 ! (init ! 4 refl ((shr_slice_Lawful 𝓛 (named 0) κ u8).typed s (v ∷ []) p).0) $ pass1 ! (init ! 2 refl (tt, record { fits = ok })) $ pass0 ! $
         assigns ! (agg ! (and_then ! (load ! (from ! (stop !)) (look ! 4 refl)) (and_then ! (load ! (from ! (stop !)) (look ! 2 refl)) (no_more !)))) (from ! (stop !)) (init ! 0 refl (tt, (((shr_slice_Lawful 𝓛 (named 0) κ u8).typed s (v ∷ []) p).0.1, (record { fits = ok }, tt)))) $
-        move ! (8 ∷ []) $ use1 𝓛 (raw ((HandOut 𝓛 mem run).pre to) ⊛ ‵ Own) (goes fit) $ split ! $
+        move ! (8 ∷ []) $ use1 𝓛 (raw ((HandOut 𝓛 mem run).requires to) ⊛ ‵ Own) (goes fit) $ split ! $
         calls_at ! fm (HandOut 𝓛 mem run) known to (and_then ! (load ! (from ! (stop !)) (look ! 2 refl)) (no_more !)) (λ u.
         use1 𝓛 (later (some (λ (r : Handed). ((‵ (flft κ q) ⊛ ‵ ftrue) ⊛ ‵ ((S.the_row).own_val r (u ∷ []))) ⊛ raw (ensured 𝓛 hand-out.ended (hand-out.clauses 𝓛 mem run) (κ, tt) (made, tt) tt r)))) (id⊢ 𝓤 _) $ await ! tt $ pick ! (λ r.
         split ! $ move ! (1 ∷ []) $ use1 𝓛 (raw (fact 𝓤 (r ≡ found))) (said r) $ heard ! (r ≡ found) (λ e. split ! $ move ! (1 ∷ []) $

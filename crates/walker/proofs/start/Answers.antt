@@ -94,11 +94,11 @@ module _ {M : Type 1} {𝓤 : Ura M} (𝓛 : Logic 𝓤) (mem : Memory → SProp
   abbrev to : (Begin 𝓛 mem run).Ghost
   to = (((κ, tt), (q, tt), tt, (s, tt), (v ∷ [], tt)), tt)
 
-  goes : ent 𝓤 (on_entry 𝓛 start.signature (κ, tt) (q, tt) (s, tt) (v ∷ [], tt)) (sep 𝓤 ((Begin 𝓛 mem run).pre to) (sem 𝓛 Own))
+  goes : ent 𝓤 (on_entry 𝓛 start.signature (κ, tt) (q, tt) (s, tt) (v ∷ [], tt)) (sep 𝓤 ((Begin 𝓛 mem run).requires to) (sem 𝓛 Own))
   goes =
       qed 𝓛 ((‵ (flft κ q) ⊛ ‵ ftrue) ∷ ‵ (owns (ShrSlice (named 0) κ u8 ∷ []) (s, tt) (v ∷ [], tt)) ∷ []) ∵
       move ! (1 ∷ []) $ fsplit ! $ use1 𝓛 (‵ Own ⊛ ‵ Own) ((shr_slice_copy 𝓛 (named 0) κ u8).twice s (v ∷ [])) $ split ! $
-      move ! (0 ∷ 2 ∷ []) $ fjoin ! $ move ! (2 ∷ 0 ∷ []) $ use2 𝓛 (raw ((Begin 𝓛 mem run).pre to)) (qed 𝓛 ((‵ (flft κ q) ⊛ ‵ ftrue) ∷ ‵ (owns (ShrSlice (named 0) κ u8 ∷ []) (s, tt) (v ∷ [], tt)) ∷ []) ∵ join ! $ frame ! $ done !) $ frame ! $ done !
+      move ! (0 ∷ 2 ∷ []) $ fjoin ! $ move ! (2 ∷ 0 ∷ []) $ use2 𝓛 (raw ((Begin 𝓛 mem run).requires to)) (qed 𝓛 ((‵ (flft κ q) ⊛ ‵ ftrue) ∷ ‵ (owns (ShrSlice (named 0) κ u8 ∷ []) (s, tt) (v ∷ [], tt)) ∷ []) ∵ join ! $ frame ! $ done !) $ frame ! $ done !
 
   said : (b : Begun) → ent 𝓤 (ensured 𝓛 begin.ended (begin.clauses 𝓛 mem run) (κ, tt) (s, tt) tt b) (fact 𝓤 (b ≡ begun s.now))
   said b = ex_e 𝓤 _ (λ ws. snd∗ 𝓤 (sem 𝓛 (lasts begin.ended (κ, tt) (s, tt) ws)) (fact 𝓤 (b ≡ begun s.now)))
@@ -119,7 +119,7 @@ module _ {M : Type 1} {𝓤 : Ura M} (𝓛 : Logic 𝓤) (mem : Memory → SProp
         let area = ((shr_slice_Lawful 𝓛 (named 0) κ u8).typed s (v ∷ []) p).0 in
         qed 𝓛 (raw (on_entry 𝓛 start.signature (κ, tt) (q, tt) (s, tt) (v ∷ [], tt)) ∷ []) ∵ enter ! C Λ code.function (v ∷ []) _ $
         alloc1 ! (λ l₀. alloc1 ! (λ l₁. alloc1 ! (λ l₂. alloc1 ! (λ l₃. alloc0 ! $ params1 ! $ pass1 ! (init ! 4 refl area) $ pass0 ! $
-        move ! (8 ∷ []) $ use1 𝓛 (raw ((Begin 𝓛 mem run).pre to) ⊛ ‵ Own) goes $ split ! $
+        move ! (8 ∷ []) $ use1 𝓛 (raw ((Begin 𝓛 mem run).requires to) ⊛ ‵ Own) goes $ split ! $
         calls_at ! fm (Begin 𝓛 mem run) known to (and_then ! (load ! (from ! (stop !)) (look ! 6 refl)) (no_more !)) (λ u.
         use1 𝓛 (later (some (λ (b : Begun). ((‵ (flft κ q) ⊛ ‵ ftrue) ⊛ ‵ ((B.the_row).own_val b (u ∷ []))) ⊛ raw (ensured 𝓛 begin.ended (begin.clauses 𝓛 mem run) (κ, tt) (s, tt) tt b)))) (id⊢ 𝓤 _) $ await ! tt $ pick ! (λ b.
         split ! $ move ! (1 ∷ []) $ use1 𝓛 (raw (fact 𝓤 (b ≡ begun s.now))) (said b) $ heard ! (b ≡ begun s.now) (λ e. split ! $ move ! (1 ∷ []) $

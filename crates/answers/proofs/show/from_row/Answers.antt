@@ -111,11 +111,11 @@ module _ {M : Type 1} {𝓤 : Ura M} (𝓛 : Logic 𝓤) (mem : Memory → SProp
   abbrev to-resume : (Resume 𝓛 mem run).Ghost
   to-resume = (((κ, tt), (q, tt), tt, (s, (i, tt)), (v ∷ [], (vint w64 i ∷ [], tt))), tt)
 
-  resumes : ent 𝓤 (sep 𝓤 (A.lft κ q) (sem 𝓛 Own)) (sep 𝓤 ((Resume 𝓛 mem run).pre to-resume) (sem 𝓛 Own))
+  resumes : ent 𝓤 (sep 𝓤 (A.lft κ q) (sem 𝓛 Own)) (sep 𝓤 ((Resume 𝓛 mem run).requires to-resume) (sem 𝓛 Own))
   resumes =
       qed 𝓛 (‵ (flft κ q) ∷ ‵ Own ∷ []) ∵ move ! (1 ∷ []) $ use1 𝓛 (‵ Own ⊛ ‵ Own) ((shr_slice_copy 𝓛 (named 0) κ u8).twice s (v ∷ [])) $ split ! $
       nothing ! $ owned ! usize (Is usize) (uint_Makes 𝓛 w64) i _ (refl, i-fits) $ fjoin ! $ move ! (1 ∷ 0 ∷ []) $ fjoin ! $
-      nothing ! $ move ! (3 ∷ 0 ∷ []) $ join ! $ use2 𝓛 (raw ((Resume 𝓛 mem run).pre to-resume)) (qed 𝓛 ((‵ (flft κ q) ⊛ ‵ ftrue) ∷ ‵ (owns (ShrSlice (named 0) κ u8 ∷ usize ∷ []) (s, (i, tt)) (v ∷ [], (vint w64 i ∷ [], tt))) ∷ []) ∵ join ! $ frame ! $ done !) $ frame ! $ done !
+      nothing ! $ move ! (3 ∷ 0 ∷ []) $ join ! $ use2 𝓛 (raw ((Resume 𝓛 mem run).requires to-resume)) (qed 𝓛 ((‵ (flft κ q) ⊛ ‵ ftrue) ∷ ‵ (owns (ShrSlice (named 0) κ u8 ∷ usize ∷ []) (s, (i, tt)) (v ∷ [], (vint w64 i ∷ [], tt))) ∷ []) ∵ join ! $ frame ! $ done !) $ frame ! $ done !
 
   resume-said : (k : Walker) → ent 𝓤 (ensured 𝓛 resume.ended (resume.clauses 𝓛 mem run) (κ, tt) (s, (i, tt)) tt k) (fact 𝓤 (k ≡ resumed s i))
   resume-said k = ex_e 𝓤 _ (λ ws. snd∗ 𝓤 (sem 𝓛 (lasts resume.ended (κ, tt) (s, (i, tt)) ws)) (fact 𝓤 (k ≡ resumed s i)))
@@ -125,7 +125,7 @@ module _ {M : Type 1} {𝓤 : Ura M} (𝓛 : Logic 𝓤) (mem : Memory → SProp
   to-walk k u = (((κ, (κ', tt)), (q, (q', tt)), tt, (k, (x ds, (n, tt))), (u ∷ [], (buf ∷ [], (vint w64 n ∷ [], tt)))), tt)
 
   walks-on : (k : Walker) (u : Val) → Walkable k.area.now k.next × (n ≤ length ds)
-      → ent 𝓤 (⋆ 𝓛 ((‵ (flft κ q) ⊛ ‵ (flft κ' q') ⊛ ‵ ftrue) ∷ ‵ ((T.the_row α).own_val k (u ∷ [])) ∷ ‵ Held ∷ [])) ((Walk 𝓛 mem run).pre (to-walk k u))
+      → ent 𝓤 (⋆ 𝓛 ((‵ (flft κ q) ⊛ ‵ (flft κ' q') ⊛ ‵ ftrue) ∷ ‵ ((T.the_row α).own_val k (u ∷ [])) ∷ ‵ Held ∷ [])) ((Walk 𝓛 mem run).requires (to-walk k u))
   walks-on k u asks =
       qed 𝓛 ((‵ (flft κ q) ⊛ ‵ (flft κ' q') ⊛ ‵ ftrue) ∷ ‵ ((T.the_row α).own_val k (u ∷ [])) ∷ ‵ Held ∷ []) ∵ says ! asks $ frame ! $
       nothing ! $ owned ! usize (Is usize) (uint_Makes 𝓛 w64) n _ (refl, n-fits) $ fjoin ! $ move ! (2 ∷ 0 ∷ []) $ fjoin ! $ move ! (1 ∷ 0 ∷ []) $ fjoin ! $ done !
@@ -147,7 +147,7 @@ module _ {M : Type 1} {𝓤 : Ura M} (𝓛 : Logic 𝓤) (mem : Memory → SProp
         -- what the parameters own is taken apart, and the tokens
         move ! (17 ∷ []) $ fsplit ! $ move ! (1 ∷ []) $ fsplit ! $ drop ! $ fsplit ! $ move ! (1 ∷ []) $ drop ! $ move ! (18 ∷ []) $ split ! $ move ! (1 ∷ []) $ split ! $
         -- [the buffer's token; …; the token; the buffer; what area owns; _7; …; _6; …; _5; …; _4; …; _3; …; _2; …; _1; …; room for _0; …]
-        move ! (2 ∷ 4 ∷ []) $ use2 𝓛 (raw ((Resume 𝓛 mem run).pre to-resume) ⊛ ‵ Own) resumes $ split ! $
+        move ! (2 ∷ 4 ∷ []) $ use2 𝓛 (raw ((Resume 𝓛 mem run).requires to-resume) ⊛ ‵ Own) resumes $ split ! $
         calls_at ! fm (Resume 𝓛 mem run) resume-known to-resume (and_then ! (load ! (from ! (stop !)) (look ! 17 refl)) (and_then ! (load ! (from ! (stop !)) (look ! 15 refl)) (no_more !))) (λ u.
         use1 𝓛 (later (some (λ (k : Walker). ((‵ (flft κ q) ⊛ ‵ ftrue) ⊛ ‵ ((T.the_row α).own_val k (u ∷ []))) ⊛ raw (ensured 𝓛 resume.ended (resume.clauses 𝓛 mem run) (κ, tt) (s, (i, tt)) tt k)))) (id⊢ 𝓤 _) $ await ! tt $ pick ! (λ k.
         split ! $ move ! (1 ∷ []) $ use1 𝓛 (raw (fact 𝓤 (k ≡ resumed s i))) (resume-said k) $ heard ! (k ≡ resumed s i) (λ e. split ! $ move ! (1 ∷ []) $
@@ -158,7 +158,7 @@ module _ {M : Type 1} {𝓤 : Ura M} (𝓛 : Logic 𝓤) (mem : Memory → SProp
         assigns ! (agg ! (and_then ! (load ! (from ! (stop !)) (look ! 8 refl)) (and_then ! (load ! (from ! (fld ! refl (stop !))) (look_in ! 14 (sub ! 1 refl (whole !)))) (no_more !)))) (from ! (stop !)) (init ! 6 refl (tt, (tt, (record { fits = room.0 }, tt)))) $
         move ! (3 ∷ 4 ∷ []) $ join ! $ move ! (2 ∷ []) $ split ! $ move ! (0 ∷ 2 ∷ []) $ join ! $
         -- [the tokens; …; what the walker owns; what area owns; the buffer; …]
-        move ! (0 ∷ 2 ∷ 4 ∷ []) $ use3 𝓛 (raw ((Walk 𝓛 mem run).pre (to-walk k u))) (walks-on k u (subst⁻¹ (λ (y : Walker). Walkable y.area.now y.next) e (go_on_at-walkable s.now i), inside)) $
+        move ! (0 ∷ 2 ∷ 4 ∷ []) $ use3 𝓛 (raw ((Walk 𝓛 mem run).requires (to-walk k u))) (walks-on k u (subst⁻¹ (λ (y : Walker). Walkable y.area.now y.next) e (go_on_at-walkable s.now i), inside)) $
         calls_at ! fm (Walk 𝓛 mem run) walk-known (to-walk k u) (and_then ! (load ! (from ! (stop !)) (look ! 7 refl)) (and_then ! (load ! (from ! (stop !)) (look ! 3 refl)) (and_then ! (load ! (from ! (stop !)) (look ! 9 refl)) (no_more !)))) (λ w.
         use1 𝓛 (later (some (λ (r : Shown). ((‵ (flft κ q) ⊛ ‵ (flft κ' q') ⊛ ‵ ftrue) ⊛ ‵ ((R.the_row).own_val r (w ∷ []))) ⊛ raw (ensured 𝓛 walk.ended (walk.clauses 𝓛 mem run) (κ, (κ', tt)) (k, (x ds, (n, tt))) tt r)))) (id⊢ 𝓤 _) $ await ! tt $ pick ! (λ r.
         split ! $ move ! (1 ∷ []) $ use1 𝓛 (some (λ (zs : Unit {0} × (List ℕ × (Unit {0} × Unit {0}))). ‵ (lasts walk.ended (κ, (κ', tt)) (k, (x ds, (n, tt))) zs) ⊛ raw (fact 𝓤 (RowsShown k.area.now k.next n ds r zs.1.0)))) (id⊢ 𝓤 _) $ pick ! (λ zs.

@@ -155,11 +155,11 @@ module _ {M : Type 1} {𝓤 : Ura M} (𝓛 : Logic 𝓤) (mem : Memory → SProp
   abbrev to_start : (Start 𝓛 mem run).Ghost
   to_start = (((κ, tt), (q, tt), tt, (s, tt), (v ∷ [], tt)), tt)
 
-  starts : ent 𝓤 (sep 𝓤 (A.lft κ q) (sem 𝓛 Own)) (sep 𝓤 ((Start 𝓛 mem run).pre to_start) (sem 𝓛 Own))
+  starts : ent 𝓤 (sep 𝓤 (A.lft κ q) (sem 𝓛 Own)) (sep 𝓤 ((Start 𝓛 mem run).requires to_start) (sem 𝓛 Own))
   starts =
       qed 𝓛 (‵ (flft κ q) ∷ ‵ Own ∷ []) ∵ move ! (1 ∷ []) $ use1 𝓛 (‵ Own ⊛ ‵ Own) ((shr_slice_copy 𝓛 (named 0) κ u8).twice s (v ∷ [])) $ split ! $
       nothing ! $ move ! (1 ∷ 0 ∷ []) $ fjoin ! $
-      nothing ! $ move ! (3 ∷ 0 ∷ []) $ join ! $ use2 𝓛 (raw ((Start 𝓛 mem run).pre to_start)) (qed 𝓛 ((‵ (flft κ q) ⊛ ‵ ftrue) ∷ ‵ (owns (ShrSlice (named 0) κ u8 ∷ []) (s, tt) (v ∷ [], tt)) ∷ []) ∵ join ! $ frame ! $ done !) $ frame ! $ done !
+      nothing ! $ move ! (3 ∷ 0 ∷ []) $ join ! $ use2 𝓛 (raw ((Start 𝓛 mem run).requires to_start)) (qed 𝓛 ((‵ (flft κ q) ⊛ ‵ ftrue) ∷ ‵ (owns (ShrSlice (named 0) κ u8 ∷ []) (s, tt) (v ∷ [], tt)) ∷ []) ∵ join ! $ frame ! $ done !) $ frame ! $ done !
 
   start-said : (k : Started) → ent 𝓤 (ensured 𝓛 start.ended (start.clauses 𝓛 mem run) (κ, tt) (s, tt) tt k) (fact 𝓤 (k ≡ started s))
   start-said k = ex_e 𝓤 _ (λ ws. snd∗ 𝓤 (sem 𝓛 (lasts start.ended (κ, tt) (s, tt) ws)) (fact 𝓤 (k ≡ started s)))
@@ -179,7 +179,7 @@ module _ {M : Type 1} {𝓤 : Ura M} (𝓛 : Logic 𝓤) (mem : Memory → SProp
   to_write ν δ c = (((ν ∷ [], tt), (full_share, tt), tt, (x δ ds, (n, (m, (c, tt)))), (buf ∷ [], (vint w64 n ∷ [], (vint w64 m ∷ [], (vint w32 c ∷ [], tt))))), tt)
 
   writes : (ν : ℕ) (δ : GName) (c : ℕ) → c < 2 ^ 32 → n + most_text ≤ length ds
-      → ent 𝓤 (sep 𝓤 (A.lft (ν ∷ []) full_share) (sem 𝓛 ((MutSlice (named 0) (ν ∷ []) u8).own_val (x δ ds) (buf ∷ [])))) ((WriteAnswer 𝓛 mem run).pre (to_write ν δ c))
+      → ent 𝓤 (sep 𝓤 (A.lft (ν ∷ []) full_share) (sem 𝓛 ((MutSlice (named 0) (ν ∷ []) u8).own_val (x δ ds) (buf ∷ [])))) ((WriteAnswer 𝓛 mem run).requires (to_write ν δ c))
   writes ν δ c c-fits room =
       qed 𝓛 (‵ (flft (ν ∷ []) full_share) ∷ ‵ ((MutSlice (named 0) (ν ∷ []) u8).own_val (x δ ds) (buf ∷ [])) ∷ []) ∵ says ! (answer-fits m (bare c) n ds m-fits c-fits room) $
       nothing ! $ move ! (1 ∷ 0 ∷ []) $ join ! $ frame ! $
@@ -190,7 +190,7 @@ module _ {M : Type 1} {𝓤 : Ura M} (𝓛 : Logic 𝓤) (mem : Memory → SProp
   to-walk k l z = (((κ, (κ', tt)), (q, (q', tt)), tt, (k, (x γ l, (z, tt))), (T'.lowered k ∷ [], (buf ∷ [], (vint w64 z ∷ [], tt)))), tt)
 
   walks-on : (k : Walker) (l : List ℕ) (z : ℕ) → z < 2 ^ 64 → Walkable k.area.now k.next × (z ≤ length l)
-      → ent 𝓤 (⋆ 𝓛 ((‵ (flft κ q) ⊛ ‵ (flft κ' q') ⊛ ‵ ftrue) ∷ ‵ ((T.the_row α).own_val k (T'.lowered k ∷ [])) ∷ ‵ (Held l) ∷ [])) ((Walk 𝓛 mem run).pre (to-walk k l z))
+      → ent 𝓤 (⋆ 𝓛 ((‵ (flft κ q) ⊛ ‵ (flft κ' q') ⊛ ‵ ftrue) ∷ ‵ ((T.the_row α).own_val k (T'.lowered k ∷ [])) ∷ ‵ (Held l) ∷ [])) ((Walk 𝓛 mem run).requires (to-walk k l z))
   walks-on k l z z-fits asks =
       qed 𝓛 ((‵ (flft κ q) ⊛ ‵ (flft κ' q') ⊛ ‵ ftrue) ∷ ‵ ((T.the_row α).own_val k (T'.lowered k ∷ [])) ∷ ‵ (Held l) ∷ []) ∵ says ! asks $ frame ! $
       nothing ! $ owned ! usize (Is usize) (uint_Makes 𝓛 w64) z _ (refl, z-fits) $ fjoin ! $ move ! (2 ∷ 0 ∷ []) $ fjoin ! $ move ! (1 ∷ 0 ∷ []) $ fjoin ! $ done !
@@ -232,7 +232,7 @@ module _ {M : Type 1} {𝓤 : Ura M} (𝓛 : Logic 𝓤) (mem : Memory → SProp
           assigns ! (agg ! (and_then ! (load ! (from ! (stop !)) (look ! 4 refl)) (and_then ! (load ! (from ! (fld ! refl (stop !))) (look_in ! 0 (sub ! 1 refl (whole !)))) (no_more !)))) (from ! (stop !)) (init ! 5 refl (tt, (tt, (record { fits = room.0 }, tt)))) $
           move ! (26 ∷ []) $ split ! $ move ! (28 ∷ 1 ∷ []) $ join ! $ move ! (1 ∷ 0 ∷ []) $ join ! $
           -- [the tokens; the locals; what area owns; what the walker owns; the buffer]
-          move ! (0 ∷ 28 ∷ 29 ∷ []) $ use3 𝓛 (raw ((Walk 𝓛 mem run).pre (to-walk k.walker l z))) (walks-on k.walker l z z-fits asks) $
+          move ! (0 ∷ 28 ∷ 29 ∷ []) $ use3 𝓛 (raw ((Walk 𝓛 mem run).requires (to-walk k.walker l z))) (walks-on k.walker l z z-fits asks) $
           calls_at ! fm (Walk 𝓛 mem run) walk-known (to-walk k.walker l z) (and_then ! (load ! (from ! (stop !)) (look ! 4 refl)) (and_then ! (load ! (from ! (stop !)) (look ! 6 refl)) (and_then ! (load ! (from ! (stop !)) (look ! 3 refl)) (no_more !)))) (λ w.
           use1 𝓛 (later (some (λ (r : Shown). ((‵ (flft κ q) ⊛ ‵ (flft κ' q') ⊛ ‵ ftrue) ⊛ ‵ ((R.the_row).own_val r (w ∷ []))) ⊛ raw (ensured 𝓛 walk.ended (walk.clauses 𝓛 mem run) (κ, (κ', tt)) (k.walker, (x γ l, (z, tt))) tt r)))) (id⊢ 𝓤 _) $ await ! tt $ pick ! (λ r.
           split ! $ move ! (1 ∷ []) $ use1 𝓛 (some (λ (zs : Unit {0} × (List ℕ × (Unit {0} × Unit {0}))). ‵ (lasts walk.ended (κ, (κ', tt)) (k.walker, (x γ l, (z, tt))) zs) ⊛ raw (fact 𝓤 (RowsShown k.walker.area.now k.walker.next z l r zs.1.0)))) (id⊢ 𝓤 _) $ pick ! (λ zs.
@@ -252,7 +252,7 @@ module _ {M : Type 1} {𝓤 : Ura M} (𝓛 : Logic 𝓤) (mem : Memory → SProp
           -- what the parameters own is taken apart, and the tokens
           move ! (27 ∷ []) $ fsplit ! $ move ! (1 ∷ []) $ fsplit ! $ drop ! $ fsplit ! $ move ! (1 ∷ []) $ drop ! $ move ! (28 ∷ []) $ split ! $ move ! (1 ∷ []) $ split ! $
           -- [the buffer's token; …; the token; the buffer; what area owns; the locals]
-          move ! (2 ∷ 4 ∷ []) $ use2 𝓛 (raw ((Start 𝓛 mem run).pre to_start) ⊛ ‵ Own) starts $ split ! $
+          move ! (2 ∷ 4 ∷ []) $ use2 𝓛 (raw ((Start 𝓛 mem run).requires to_start) ⊛ ‵ Own) starts $ split ! $
           calls_at ! fm (Start 𝓛 mem run) start-known to_start (and_then ! (load ! (from ! (stop !)) (look ! 5 refl)) (no_more !)) (λ u.
           use1 𝓛 (later (some (λ (k : Started). ((‵ (flft κ q) ⊛ ‵ ftrue) ⊛ ‵ ((S.the_row α).own_val k (u ∷ []))) ⊛ raw (ensured 𝓛 start.ended (start.clauses 𝓛 mem run) (κ, tt) (s, tt) tt k)))) (id⊢ 𝓤 _) $ await ! tt $ pick ! (λ k.
           split ! $ move ! (1 ∷ []) $ use1 𝓛 (raw (fact 𝓤 (k ≡ started s))) (start-said k) $ heard ! (k ≡ started s) (λ e. split ! $ move ! (1 ∷ []) $
@@ -267,7 +267,7 @@ module _ {M : Type 1} {𝓤 : Ura M} (𝓛 : Logic 𝓤) (mem : Memory → SProp
           -- the buffer is lent again, for a lifetime ν of the call
           lft_new ! tt (λ ν. move ! (7 ∷ 5 ∷ []) $
           use2 𝓛 (later (some (λ (δ : GName). ‵ ((MutSlice (named 0) (ν ∷ []) u8).own_val (x δ ds) (buf ∷ [])) ⊛ ‵ (LentAgain u8 κ' (ν ∷ []) q' γ b o δ ds)))) (lends_again u8 κ' (ν ∷ []) q' γ b o 𝓛 (named 1) (named 0) ds) $ await ! tt $ pick ! (λ δ. split ! $
-          move ! (2 ∷ 0 ∷ []) $ use2 𝓛 (raw ((WriteAnswer 𝓛 mem run).pre (to_write ν δ k.answer))) (writes ν δ k.answer (fits k _ is) wide) $
+          move ! (2 ∷ 0 ∷ []) $ use2 𝓛 (raw ((WriteAnswer 𝓛 mem run).requires (to_write ν δ k.answer))) (writes ν δ k.answer (fits k _ is) wide) $
           -- [what `write_answer` asks; what is kept of the buffer; what the walker owns; …; the token; what area owns; …; the locals]
           calls_at ! fm (WriteAnswer 𝓛 mem run) write-answer-known (to_write ν δ k.answer) (and_then ! (load ! (from ! (stop !)) (look ! 14 refl)) (and_then ! (load ! (from ! (stop !)) (look ! 10 refl)) (and_then ! (load ! (from ! (stop !)) (look ! 8 refl)) (and_then ! (load ! (from ! (stop !)) (look ! 15 refl)) (no_more !))))) (λ w.
           use1 𝓛 (later (some (λ (z : ℕ). ((‵ (flft (ν ∷ []) full_share) ⊛ ‵ ftrue) ⊛ ‵ (usize.own_val z (w ∷ []))) ⊛ raw (ensured 𝓛 write-answer.ended (write-answer.clauses 𝓛 mem run) (ν ∷ [], tt) (x δ ds, (n, (m, (k.answer, tt)))) tt z)))) (id⊢ 𝓤 _) $ await ! tt $ pick ! (λ z.

@@ -192,7 +192,7 @@ module _ {M : Type 1} {𝓤 : Ura M} (𝓛 : Logic 𝓤) (at_mem : Memory → SP
   abbrev to-come-to : (ComeTo 𝓛 at_mem run).Ghost
   to-come-to = ((tt, tt, tt, (i, (n, (length ds, tt))), (vint w64 i ∷ [], (vint w64 n ∷ [], (vint w64 (length ds) ∷ [], tt)))), tt)
 
-  comes : length ds < 2 ^ 64 → n ≤ length ds → ent 𝓤 (emp 𝓤) ((ComeTo 𝓛 at_mem run).pre to-come-to)
+  comes : length ds < 2 ^ 64 → n ≤ length ds → ent 𝓤 (emp 𝓤) ((ComeTo 𝓛 at_mem run).requires to-come-to)
   comes fits inside =
       qed 𝓛 [] ∵ says ! inside $ nothing ! $ frame ! $ nothing ! $ owned ! usize (Is usize) (uint_Makes 𝓛 w64) (length ds) _ (refl, fits) $ fjoin ! $ owned ! usize (Is usize) (uint_Makes 𝓛 w64) n _ (refl, n-fits) $ fjoin ! $ owned ! usize (Is usize) (uint_Makes 𝓛 w64) i _ (refl, i-fits) $ fjoin ! $ done !
 
@@ -203,13 +203,13 @@ module _ {M : Type 1} {𝓤 : Ura M} (𝓛 : Logic 𝓤) (at_mem : Memory → SP
   abbrev to-hand-out : ℕ → (HandOut 𝓛 at_mem run).Ghost
   to-hand-out j = (((κ, tt), (q, tt), tt, (at j, tt), (T'.lowered (at j) ∷ [], tt)), tt)
 
-  hands : (j : ℕ) → j < 2 ^ 64 → Walkable s.now j → ent 𝓤 (sep 𝓤 (A.lft κ q) (sem 𝓛 Own)) (sep 𝓤 ((HandOut 𝓛 at_mem run).pre (to-hand-out j)) (sem 𝓛 Own))
+  hands : (j : ℕ) → j < 2 ^ 64 → Walkable s.now j → ent 𝓤 (sep 𝓤 (A.lft κ q) (sem 𝓛 Own)) (sep 𝓤 ((HandOut 𝓛 at_mem run).requires (to-hand-out j)) (sem 𝓛 Own))
   hands j fits fit =
       qed 𝓛 (‵ (flft κ q) ∷ ‵ Own ∷ []) ∵ move ! (1 ∷ []) $ use1 𝓛 (‵ Own ⊛ ‵ Own) ((shr_slice_copy 𝓛 (named 0) κ u8).twice s (v ∷ [])) $ split ! $
       use1 𝓛 (‵ ((T.the_row α).own_val (at j) (T'.lowered (at j) ∷ []))) (walker-owns j fits) $ nothing ! $ move ! (1 ∷ 0 ∷ []) $ fjoin ! $
       -- [what the walker owns; what the area's reference owns; the token]
       move ! (2 ∷ []) $ nothing ! $ move ! (1 ∷ 0 ∷ []) $ join ! $ move ! (0 ∷ 1 ∷ []) $
-      use2 𝓛 (raw ((HandOut 𝓛 at_mem run).pre (to-hand-out j))) (qed 𝓛 ((‵ (flft κ q) ⊛ ‵ ftrue) ∷ ‵ (owns (T.the_row α ∷ []) (at j, tt) (T'.lowered (at j) ∷ [], tt)) ∷ []) ∵ says ! fit $ frame ! $ done !) $ frame ! $ done !
+      use2 𝓛 (raw ((HandOut 𝓛 at_mem run).requires (to-hand-out j))) (qed 𝓛 ((‵ (flft κ q) ⊛ ‵ ftrue) ∷ ‵ (owns (T.the_row α ∷ []) (at j, tt) (T'.lowered (at j) ∷ [], tt)) ∷ []) ∵ says ! fit $ frame ! $ done !) $ frame ! $ done !
 
   hand-out-said : (j : ℕ) (h : Handed) → ent 𝓤 (ensured 𝓛 hand-out.ended (hand-out.clauses 𝓛 at_mem run) (κ, tt) (at j, tt) tt h) (fact 𝓤 (h ≡ handed s.now j))
   hand-out-said j h = ex_e 𝓤 _ (λ ws. snd∗ 𝓤 (sem 𝓛 (lasts hand-out.ended (κ, tt) (at j, tt) ws)) (fact 𝓤 (h ≡ handed s.now j)))
@@ -219,7 +219,7 @@ module _ {M : Type 1} {𝓤 : Ura M} (𝓛 : Logic 𝓤) (at_mem : Memory → SP
   to-write-handed ν δ l h u z = (((ν ∷ [], tt), (full_share, tt), tt, (h, (x δ l, (z, tt))), (u ∷ [], (buf l ∷ [], (vint w64 z ∷ [], tt)))), tt)
 
   writes : (ν : ℕ) (δ : GName) (l : List ℕ) (h : Handed) (u : Val) (z : ℕ) → z < 2 ^ 64 → Writable h × (z + most_text ≤ length l)
-      → ent 𝓤 (sep 𝓤 (A.lft (ν ∷ []) full_share) (sep 𝓤 (sem 𝓛 ((D.the_row).own_val h (u ∷ []))) (sem 𝓛 ((MutSlice (named 0) (ν ∷ []) u8).own_val (x δ l) (buf l ∷ []))))) ((WriteHanded 𝓛 at_mem run).pre (to-write-handed ν δ l h u z))
+      → ent 𝓤 (sep 𝓤 (A.lft (ν ∷ []) full_share) (sep 𝓤 (sem 𝓛 ((D.the_row).own_val h (u ∷ []))) (sem 𝓛 ((MutSlice (named 0) (ν ∷ []) u8).own_val (x δ l) (buf l ∷ []))))) ((WriteHanded 𝓛 at_mem run).requires (to-write-handed ν δ l h u z))
   writes ν δ l h u z fits asks =
       qed 𝓛 (‵ (flft (ν ∷ []) full_share) ∷ ‵ ((D.the_row).own_val h (u ∷ [])) ∷ ‵ ((MutSlice (named 0) (ν ∷ []) u8).own_val (x δ l) (buf l ∷ [])) ∷ []) ∵ says ! asks $
       nothing ! $ move ! (1 ∷ 0 ∷ []) $ join ! $ frame ! $
@@ -284,7 +284,7 @@ module _ {M : Type 1} {𝓤 : Ura M} (𝓛 : Logic 𝓤) (at_mem : Memory → SP
           assigns ! (of_opd ! (load ! (from ! (fld ! refl (stop !))) (look_in ! 0 (sub ! 0 refl (whole !))))) (from ! (stop !)) (init ! 3 refl (tt, tt)) $
           rewrite ! 3 (λ (y : Bool). ‵ (fat full_share ty_bool l₇ 0 (vbool y))) g refl $ stays ! (load ! (from ! (stop !)) (look ! 3 refl)) $
           assigns ! (of_opd ! (load ! (from ! (stop !)) (look ! 1 refl))) (from ! (stop !)) (init ! 5 refl (tt, (area, (record { fits = fits }, tt)))) $
-          move ! (8 ∷ 10 ∷ []) $ use2 𝓛 (raw ((HandOut 𝓛 at_mem run).pre (to-hand-out z)) ⊛ ‵ Own) (hands z fits t.partly.walkable) $ split ! $
+          move ! (8 ∷ 10 ∷ []) $ use2 𝓛 (raw ((HandOut 𝓛 at_mem run).requires (to-hand-out z)) ⊛ ‵ Own) (hands z fits t.partly.walkable) $ split ! $
           -- [what `hand_out` asks; what the area's reference owns; _4; _1; _2; _7; _8; _9; _10; _11; the buffer's token; the buffer; …]
           calls_at ! (fm_of 𝓤 H 𝓛.laws 𝓣) (HandOut 𝓛 at_mem run) hand-out-known (to-hand-out z) (and_then ! (load ! (from ! (stop !)) (look ! 7 refl)) (no_more !)) (λ u.
           use1 𝓛 (later (some (λ (h : Handed). ((‵ (flft κ q) ⊛ ‵ ftrue) ⊛ ‵ ((D.the_row).own_val h (u ∷ []))) ⊛ raw (ensured 𝓛 hand-out.ended (hand-out.clauses 𝓛 at_mem run) (κ, tt) (at z, tt) tt h)))) (id⊢ 𝓤 _) $ await ! tt $ pick ! (λ h.
@@ -297,7 +297,7 @@ module _ {M : Type 1} {𝓤 : Ura M} (𝓛 : Logic 𝓤) (at_mem : Memory → SP
           -- the buffer is lent again, for a lifetime ν of the call
           lft_new ! tt (λ ν. move ! (13 ∷ 12 ∷ []) $
           use2 𝓛 (later (some (λ (δ : GName). ‵ ((MutSlice (named 0) (ν ∷ []) u8).own_val (x δ t.bytes) (buf t.bytes ∷ [])) ⊛ ‵ (LentAgain u8 κ' (ν ∷ []) q' γ b o δ t.bytes)))) (lends_again u8 κ' (ν ∷ []) q' γ b o 𝓛 (named 1) (named 0) t.bytes) $ await ! tt $ pick ! (λ δ. split ! $
-          move ! (2 ∷ 3 ∷ 0 ∷ []) $ use3 𝓛 (raw ((WriteHanded 𝓛 at_mem run).pre (to-write-handed ν δ t.bytes h u t.state.written))) (writes ν δ t.bytes h u t.state.written (written-fits t.state _ t.is) (writable h e, partly-room s.now i n ds t.state t.bytes t.partly g)) $
+          move ! (2 ∷ 3 ∷ 0 ∷ []) $ use3 𝓛 (raw ((WriteHanded 𝓛 at_mem run).requires (to-write-handed ν δ t.bytes h u t.state.written))) (writes ν δ t.bytes h u t.state.written (written-fits t.state _ t.is) (writable h e, partly-room s.now i n ds t.state t.bytes t.partly g)) $
           -- [what `write_handed` asks; what is kept of the buffer; the token; what the area's reference owns; _4; _1; _2; _7; _8; _9; _10; _11; …]
           calls_at ! (fm_of 𝓤 H 𝓛.laws 𝓣) (WriteHanded 𝓛 at_mem run) write-handed-known (to-write-handed ν δ t.bytes h u t.state.written)
           (and_then ! (load ! (from ! (stop !)) (look ! 8 refl)) (and_then ! (load ! (from ! (stop !)) (look ! 11 refl)) (and_then ! (load ! (from ! (fld ! refl (stop !))) (look_in ! 4 (sub ! 2 refl (whole !)))) (no_more !)))) (λ w.
@@ -345,7 +345,7 @@ module _ {M : Type 1} {𝓤 : Ura M} (𝓛 : Logic 𝓤) (at_mem : Memory → SP
           qed 𝓛 Entered ∵ exec ! 𝓣.C 𝓣.Λ En parts.t-1 (at_ret En Post) $
           assigns ! (of_opd ! (load ! (from ! (fld ! refl (stop !))) (look_in ! 0 (sub ! 1 refl (whole !))))) (from ! (stop !)) (init ! 4 refl (tt, record { fits = i-fits })) $
           assigns ! (of_opd ! (load ! (from ! (fld ! refl (stop !))) (look_in ! 1 (sub ! 1 refl (whole !))))) (from ! (stop !)) (init ! 5 refl (tt, record { fits = room.0 })) $
-          use0 𝓛 (raw ((ComeTo 𝓛 at_mem run).pre to-come-to)) (comes room.0 inside) $
+          use0 𝓛 (raw ((ComeTo 𝓛 at_mem run).requires to-come-to)) (comes room.0 inside) $
           calls_at ! (fm_of 𝓤 H 𝓛.laws 𝓣) (ComeTo 𝓛 at_mem run) come-to-known to-come-to (and_then ! (load ! (from ! (stop !)) (look ! 5 refl)) (and_then ! (load ! (from ! (stop !)) (look ! 3 refl)) (and_then ! (load ! (from ! (stop !)) (look ! 6 refl)) (no_more !)))) (λ u.
           use1 𝓛 (later (some (λ (r : Showing). (‵ ftrue ⊛ ‵ ((S.the_row).own_val r (u ∷ []))) ⊛ raw (ensured 𝓛 come-to.ended (come-to.clauses 𝓛 at_mem run) tt (i, (n, (length ds, tt))) tt r)))) (id⊢ 𝓤 _) $ await ! tt $ pick ! (λ r.
           split ! $ move ! (1 ∷ []) $ use1 𝓛 (raw (fact 𝓤 (r ≡ showing_at i n (length ds)))) (come-to-said r) $ heard ! (r ≡ showing_at i n (length ds)) (λ e. split ! $ move ! (1 ∷ []) $

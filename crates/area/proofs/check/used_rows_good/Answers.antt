@@ -67,11 +67,15 @@ second false y z e = absurd (subst⁻¹ T e tt)
 few-enough : (c : After-struct_known-in-loop-i-1) → first c ≡ true → count c ≤ most_opens
 few-enough c e = leb→le (count c) most_opens (second (ltb c.loop-i.last c.get_word-p.result) (leb (count c) most_opens) (leb (denied c) (start c).args.all.bits) e)
 
+pub loop-i-init : goal.loop-i-init
+unfolding permission_before
+loop-i-init c = search rules
+
 pub returns-then-not-ok : goal.returns-then-not-ok
 returns-then-not-ok c = fails (goal.at.returns-then-not-ok c).After-struct_known-in-loop-i-1 (sym (made (goal.at.returns-then-not-ok c).After-struct_known-in-loop-i-1 false (not-true _ c.if-not-ok.true-raw)))
 
 pub places_few-requires : goal.places_few-requires
-places_few-requires c = let h = row (goal.at.places_few-requires c).After-struct_known-in-loop-i-1 in area-spans _ _ (start (goal.at.places_few-requires c).After-struct_known-in-loop-i-1).pre.0 (omega arith)
+places_few-requires c = let h = row (goal.at.places_few-requires c).After-struct_known-in-loop-i-1 in area-spans _ _ (start (goal.at.places_few-requires c).After-struct_known-in-loop-i-1).requires.0 (omega arith)
 
 pub returns-then-not-places_few : goal.returns-then-not-places_few
 returns-then-not-places_few c =

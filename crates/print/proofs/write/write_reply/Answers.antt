@@ -54,13 +54,13 @@ pub bounds-out-c : goal.bounds-out-c
 bounds-out-c c =
     let w = c in
     let s = start (goal.at.bounds-out-c w).After-write_number_field-c in
-    line-end s.args.out.now s.args.at s.args.letter (fields s) s.pre w.write_number_field-c.new.out w.write_number_field-c.result (fields-wrote (goal.at.bounds-out-c w).After-write_number_field-c)
+    line-end s.args.out.now s.args.at s.args.letter (fields s) s.requires w.write_number_field-c.new.out w.write_number_field-c.result (fields-wrote (goal.at.bounds-out-c w).After-write_number_field-c)
 
 pub returns : goal.returns
 returns c =
     let w = c in
     let s = start (goal.at.returns w).After-write_number_field-c in
-    line_wrote s.args.out.now s.args.at s.args.letter (fields s) s.pre w.write_number_field-c.new.out w.write_number_field-c.result (fields-wrote (goal.at.returns w).After-write_number_field-c)
+    line_wrote s.args.out.now s.args.at s.args.letter (fields s) s.requires w.write_number_field-c.new.out w.write_number_field-c.result (fields-wrote (goal.at.returns w).After-write_number_field-c)
 
 pub overflow_add-result : goal.overflow_add-result
 overflow_add-result c =

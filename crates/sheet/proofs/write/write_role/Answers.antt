@@ -31,7 +31,7 @@ module _ (t : Else-name-eq0) where
   is-named = let n = t.name_of-name in let a = start-here.args in named a.works.now a.standard.now a.r name n.ensures.bytes t.if-name-eq0.left
 
 pub write_number_field-requires : goal.write_number_field-requires
-write_number_field-requires c = rw (← unnamed (goal.at.write_number_field-requires c).Then-name-eq0) (start-there (goal.at.write_number_field-requires c).Then-name-eq0).pre.2
+write_number_field-requires c = rw (← unnamed (goal.at.write_number_field-requires c).Then-name-eq0) (start-there (goal.at.write_number_field-requires c).Then-name-eq0).requires.2
 
 pub returns-then-name-eq0 : goal.returns-then-name-eq0
 returns-then-name-eq0 c = let w = c in rw (unnamed (goal.at.returns-then-name-eq0 w).Then-name-eq0) w.write_number_field.ensures
@@ -39,7 +39,7 @@ returns-then-name-eq0 c = let w = c in rw (unnamed (goal.at.returns-then-name-eq
 pub write_bytes-requires : goal.write_bytes-requires
 write_bytes-requires c =
     let s = start-here (goal.at.write_bytes-requires c).Else-name-eq0 in
-    wrote-room (wrote_one s.args.out.now s.args.at space) (name (goal.at.write_bytes-requires c).Else-name-eq0) (rw (← is-named (goal.at.write_bytes-requires c).Else-name-eq0) s.pre.2)
+    wrote-room (wrote_one s.args.out.now s.args.at space) (name (goal.at.write_bytes-requires c).Else-name-eq0) (rw (← is-named (goal.at.write_bytes-requires c).Else-name-eq0) s.requires.2)
 
 pub returns : goal.returns
 returns c =

@@ -100,7 +100,7 @@ pub write_set-b-requires : goal.write_set-b-requires
 write_set-b-requires c =
     let b = c in
     let s = start₁ (goal.at.write_set-b-requires b).After-write_bytes-a in
-    (s.pre.0, left-room (names_text (f s) (denied_roles (w s))) (from_proved (f s) (w s) (v s)) (rest₁ (goal.at.write_set-b-requires b).After-write_bytes-a) refl (room s))
+    (s.requires.0, left-room (names_text (f s) (denied_roles (w s))) (from_proved (f s) (w s) (v s)) (rest₁ (goal.at.write_set-b-requires b).After-write_bytes-a) refl (room s))
 
 pub write_bytes-c-requires : goal.write_bytes-c-requires
 write_bytes-c-requires c = let b = c in let s = start₂ (goal.at.write_bytes-c-requires b).After-out-2-1 in left-room (lf ∷ proved_word) (from_alone (f s) (w s) (v s)) (rest₂ (goal.at.write_bytes-c-requires b).After-out-2-1) refl (room s)
@@ -115,7 +115,7 @@ pub write_proved-d-requires : goal.write_proved-d-requires
 write_proved-d-requires c =
     let b = c in
     let s = start₃ (goal.at.write_proved-d-requires b).After-write_bytes-c in
-    (s.pre.0, left-room (names_text (f s) (proved_roles (w s))) (from_open (f s) (w s) (v s)) (rest₃ (goal.at.write_proved-d-requires b).After-write_bytes-c) refl (room s))
+    (s.requires.0, left-room (names_text (f s) (proved_roles (w s))) (from_open (f s) (w s) (v s)) (rest₃ (goal.at.write_proved-d-requires b).After-write_bytes-c) refl (room s))
 
 pub write_bytes-e-requires : goal.write_bytes-e-requires
 write_bytes-e-requires c = let b = c in let s = start₄ (goal.at.write_bytes-e-requires b).After-out-4-1 in left-room (lf ∷ open_word) (from_sets (f s) (w s) (v s)) (rest₄ (goal.at.write_bytes-e-requires b).After-out-4-1) refl (room s)
@@ -130,7 +130,7 @@ pub write_open-f-requires : goal.write_open-f-requires
 write_open-f-requires c =
     let b = c in
     let s = start₅ (goal.at.write_open-f-requires b).After-write_bytes-e in
-    (s.pre.0, left-room (parted_text (f s) false (open_sets (w s))) (from_verdict (f s) (w s) (v s)) (rest₅ (goal.at.write_open-f-requires b).After-write_bytes-e) refl (room s))
+    (s.requires.0, left-room (parted_text (f s) false (open_sets (w s))) (from_verdict (f s) (w s) (v s)) (rest₅ (goal.at.write_open-f-requires b).After-write_bytes-e) refl (room s))
 
 pub write_bytes-g-requires : goal.write_bytes-g-requires
 write_bytes-g-requires c = let b = c in let s = start₆ (goal.at.write_bytes-g-requires b).After-out-6-1 in left-room (lf ∷ verdict_word) (answer_text (v s)) (rest₆ (goal.at.write_bytes-g-requires b).After-out-6-1) refl (room s)
