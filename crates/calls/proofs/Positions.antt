@@ -53,6 +53,7 @@ module _ (p : ℕ) where
       → ((i : ℕ) (e : Event) → At es i e → i < a → c i ≡ true → e.permission ≡ f.permission → Reply e.happening × Reply f.happening)
       → Swapped (rest b es) (cond (eqb f.permission p) (f.happening ∷ rest c es) (rest c es))
   unfolding rest
+  pull b c [] a f at x y s r = elim at [ ]
   pull b c (e ∷ es) zero f at x y s r = rw (x, y, rest-same (λ i. b (suc i)) (λ i. c (suc i)) es (λ i g q. s (suc i) g q (λ z. omega arith)), at) same
   pull b c (e ∷ es) (suc a) f at x y s r =
       rw (s 0 e refl (λ z. omega arith))

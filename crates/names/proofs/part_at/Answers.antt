@@ -21,11 +21,10 @@ returns-then-n-eq0 c =
       place = λ n. absurd (n (sym (length-is a.t.now a.r h.half-start.result h.half-n.result h.half-start.ensures.0 h.half-n.ensures.0) ∙ c.if-n-eq0.true));
     }
 
--- TODO part-result-end : tie.Need-slice-bounds-result-end
--- TODO part-result-end c =
--- TODO     let h = c.before in
--- TODO     let s = h.before.before.before in
--- TODO     part-inside s.args.t.now s.args.r h.before.half.result h.half2.result h.before.half.ensures.0 h.half2.ensures.0 s.requires.0 s.requires.1 c.if1.false
+pub slice_bounds-result-end-2 : goal.slice_bounds-result-end-2
+slice_bounds-result-end-2 c =
+    let s = c in
+    part-inside s.args.t.now s.args.r s.half-start.result s.half-n.result s.half-start.ensures.0 s.half-n.ensures.0 s.requires.0 s.requires.1 c.if-n-eq0.false
 
 pub returns : goal.returns
 returns c =
