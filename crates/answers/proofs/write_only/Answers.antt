@@ -19,4 +19,4 @@ pub returns : goal.returns
 returns c =
     let w = c.write_decided in
     let n = c in
-    record { row = refl; wrote = rw (← n.number.ensures) w.ensures; inside = omega (arith, write-decided-requires (goal.at.returns n).After-number w.lifetimes, w.ensures.next) }
+    record { row = refl; wrote = rw (← n.number.ensures) w.ensures; inside = omega (arith, write_decided-requires (goal.at.returns n).After-number w.lifetimes, w.ensures.next) }

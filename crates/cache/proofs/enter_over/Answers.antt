@@ -78,13 +78,13 @@ pub put_over-requires : goal.put_over-requires
 put_over-requires c =
     let t = c in
     let s = t in
-    (s.requires.0, s.requires.1, settled-tidy s.args.e t.row_at.result t.settle-settled.result (settle-requires (goal.at.put_over-requires t).After-row_at tt).0.tidy t.settle-settled.ensures)
+    (s.requires.0, s.requires.1, settled-tidy s.args.e t.row_at.result t.settle-settled.result (settle-settled-requires (goal.at.put_over-requires t).After-row_at tt).0.tidy t.settle-settled.ensures)
 
 pub put_over-requires-in-Recorded : goal.put_over-requires-in-Recorded
 put_over-requires-in-Recorded c =
     let t = c in
     let s = t in
-    (s.requires.0, s.requires.1, settled-tidy s.args.e t.row_at.result t.settle-settled.result (settle-requires (goal.at.put_over-requires-in-Recorded t).After-row_at tt).0.tidy t.settle-settled.ensures)
+    (s.requires.0, s.requires.1, settled-tidy s.args.e t.row_at.result t.settle-settled.result (settle-settled-requires (goal.at.put_over-requires-in-Recorded t).After-row_at tt).0.tidy t.settle-settled.ensures)
 
 pub returns-in-Forgotten : goal.returns-in-Forgotten
 returns-in-Forgotten c =

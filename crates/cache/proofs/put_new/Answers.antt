@@ -106,7 +106,7 @@ insert_at-requires c =
     let s = b in
     let l = s.args.a.now in
     let few : length (rows_in l) < most_rows = omega (arith, u.rows_used.ensures, t.if-rows_used-eq-MOST_ROWS.false, s.requires.0.few) in
-    (s.requires.0, place_inside l s.requires.0 s.args.p s.args.i s.requires.1, few, is-blank-requires (goal.at.insert_at-requires b).Start tt)
+    (s.requires.0, place_inside l s.requires.0 s.args.p s.args.i s.requires.1, few, is_blank-requires (goal.at.insert_at-requires b).Start tt)
 
 pub returns : goal.returns
 returns c =

@@ -2,18 +2,18 @@
 use borrow.Author.Rules.{rules}
 use mathlib.Core.Path.{◌≡◌, sym, ◌∙◌}
 use mathlib.Core.Bool.{true, false}
-use mathlib.Core.Logic.{⊎_elim}
-use Prim.Native.Nat.{ℕ, ◌+◌}
+use Prim.Native.Nat.{ℕ, ◌+◌, ◌<◌}
 use native.Mathlib.Omega.{arith}
 use Rattle.meaning.specs.Rows.{blank}
 use Rattle.area.specs.State.{Entry}
 use Rattle.rows.specs.Stored.{stored_row}
 use Rattle.rows.specs.declared.Row.{Row}
-use Rattle.table.specs.Table.{rows_in, nth}
+use lib.ListN.{length}
+use Rattle.table.specs.Table.{Sound, rows_in, nth}
 use Rattle.walker.specs.Walk.{given, none}
 use Rattle.walker.specs.declared.Handed.{Handed}
 use Rattle.walker.proofs.WalkLaws.{walk-row, walk_end, walk-past, permission-valid}
-use Rattle.walker.proofs.hand.Goals.{Then-next-rows_used}
+use Rattle.walker.proofs.hand.Goals.{Then-next-rows_used, then-next-lt-MOST_ROWS+else-next-rows_used, else-next-lt-MOST_ROWS}
 use Rattle.walker.proofs.hand.Goals as goal
 
 -- ---- the values
@@ -29,25 +29,26 @@ handed-none i w v = cc
 pub rows_used-requires : goal.rows_used-requires
 rows_used-requires c = c.requires c.if-next-lt-MOST_ROWS.true
 
+-- there is a row of that number
+there : (c : Then-next-rows_used) → Sound c.args.a.now × (c.args.next < length (rows_in c.args.a.now))
+there c = (c.requires c.if-next-lt-MOST_ROWS.true, rw c.rows_used.ensures at c.if-next-rows_used.true)
+
 pub permission_at-requires : goal.permission_at-requires
-permission_at-requires c =
-    let t = c in
-    (t.requires t.if-next-lt-MOST_ROWS.true, rw c.rows_used.ensures at c.if-next-rows_used.true)
+permission_at-requires c = there (goal.at.permission_at-requires c).Then-next-rows_used
 
 pub overflow_cast-result : goal.overflow_cast-result
 overflow_cast-result c =
-    let s = c in
-    let k = permission-at-requires (goal.at.overflow_cast-result c).Then-next-rows_used s.lifetimes in
-    let v = permission-valid s.args.a.now k.0 s.args.next k.1 in
+    let k = there (goal.at.overflow_cast-result c).Then-next-rows_used in
+    let v = permission-valid c.args.a.now k.0 c.args.next k.1 in
     record { fits = omega (arith, c.permission_at.ensures) }
 
 pub row_at-requires : goal.row_at-requires
-row_at-requires c = permission-at-requires (goal.at.row_at-requires c).Then-next-rows_used κs
+row_at-requires c = there (goal.at.row_at-requires c).Then-next-rows_used
 
 pub returns-then-next-rows_used : goal.returns-then-next-rows_used
 returns-then-next-rows_used c =
     let s = c in
-    let k = permission-at-requires (goal.at.returns-then-next-rows_used c).Then-next-rows_used s.lifetimes in
+    let k = there (goal.at.returns-then-next-rows_used c).Then-next-rows_used in
     let l = s.args.a.now in
     let i = s.args.next in
     handed-row i _ _ (nth i (rows_in l)) c.permission_at.ensures c.row_at.ensures ∙ sym (walk-row l i k.0.good k.1)
@@ -58,4 +59,6 @@ returns c =
     let l = s.args.a.now in
     let i = s.args.next in
     handed-none i _ c.blank.ensures
-    ∙ sym (⊎_elim (λ k. walk_end l i (s.requires k.0.taken).good (rw k.1.ensures at k.2.left)) (λ k. walk-past l i k.left) c.if-next-lt-MOST_ROWS.branch)
+    ∙ sym (elim c.if-next-lt-MOST_ROWS.branch [
+      then-next-lt-MOST_ROWS+else-next-rows_used w ↦ walk_end l i (s.requires w.if-next-lt-MOST_ROWS.true).good (rw w.rows_used.ensures at w.if-next-rows_used.false)
+    | else-next-lt-MOST_ROWS w ↦ walk-past l i w.if-next-lt-MOST_ROWS.false ])

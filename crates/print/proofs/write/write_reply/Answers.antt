@@ -65,4 +65,4 @@ returns c =
 pub overflow_add-result : goal.overflow_add-result
 overflow_add-result c =
     let w = c.write_number_field-c in
-    omega (arith, slice-write-out-2 (goal.at.overflow_add-result c).After-slice_known-4-1, wrote-length (returns (goal.at.overflow_add-result c).After-slice_known-4-1), length-set w.new.0 w.result lf)
+    omega (arith, bounds-out-c (goal.at.overflow_add-result c).After-slice_known-4-1, wrote-length (returns (goal.at.overflow_add-result c).After-slice_known-4-1), length-set w.new.0 w.result lf)
