@@ -12,68 +12,45 @@ use Rattle.cache.proofs.decide.Goals as goal
 
 pub returns-then-not-check : goal.returns-then-not-check
 returns-then-not-check c =
-    let k = c in
-    let s = k in
-    c.bare.ensures ∙ sym (decide-bad-area s.args.a.now s.args.p s.args.s (sym k.check.ensures ∙ not-true _ c.if-not-check.true-raw))
+    c.bare.ensures ∙ sym (decide-bad-area c.args.a.now c.args.p c.args.s (sym c.check.ensures ∙ c.if-not-check.true))
 
 pub returns-then-p-eq0 : goal.returns-then-p-eq0
 returns-then-p-eq0 c =
-    let k = c in
-    let s = k in
     c.bare-then-p-eq0.ensures
-    ∙ sym (decide-no-permission s.args.a.now s.args.p s.args.s (sym k.check.ensures ∙ not-false _ c.if-not-check.false-raw) (not_valid s.args.p c.if-p-eq0.true))
+    ∙ sym (decide-no-permission c.args.a.now c.args.p c.args.s (sym c.check.ensures ∙ c.if-not-check.false) (not_valid c.args.p c.if-p-eq0.true))
 
 pub role_count-requires : goal.role_count-requires
 role_count-requires c =
-    let k = c in
-    let s = k in
-    let l = s.args.a.now in
-    sound l (is_true (good_bytes l) (sym k.check.ensures ∙ not-false _ c.if-not-check.false-raw))
+    let l = c.args.a.now in
+    sound l (is_true (good_bytes l) (sym c.check.ensures ∙ c.if-not-check.false))
 
 pub set_known-requires : goal.set_known-requires
 set_known-requires c =
-    let k = c in
-    let s = k in
-    let l = s.args.a.now in
-    roles-few l c.role_count.result (is_true (good_bytes l) (sym k.check.ensures ∙ not-false _ c.if-not-check.false-raw)) c.role_count.ensures
+    let l = c.args.a.now in
+    roles-few l c.role_count.result (is_true (good_bytes l) (sym c.check.ensures ∙ c.if-not-check.false)) c.role_count.ensures
 
 pub returns-then-not-set_known : goal.returns-then-not-set_known
 returns-then-not-set_known c =
-    let t = c in
-    let w = t in
-    let k = w in
-    let s = k in
-    let l = s.args.a.now in
+    let l = c.args.a.now in
     c.bare-then-not-set_known.ensures
-    ∙ sym (decide-unknown l s.args.p s.args.s (sym k.check.ensures ∙ not-false _ w.if-not-check.false-raw) (is-valid s.args.p w.if-p-eq0.false (omega arith))
-    (set-known-at l _ s.args.s _ _ w.role_count.ensures t.set_Known.ensures (not-true _ t.if-not-set_known.true-raw)))
+    ∙ sym (decide-unknown l c.args.p c.args.s (sym c.check.ensures ∙ c.if-not-check.false) (is-valid c.args.p c.if-p-eq0.false (omega arith))
+    (set-known-at l _ c.args.s _ _ c.role_count.ensures c.set_known.ensures c.if-not-set_known.true))
 
 pub row_for-requires : goal.row_for-requires
 row_for-requires c =
-    let w = c in
-    let k = w in
-    let s = k in
-    let l = s.args.a.now in
-    sound l (is_true (good_bytes l) (sym k.check.ensures ∙ not-false _ w.if-not-check.false-raw))
+    let l = c.args.a.now in
+    sound l (is_true (good_bytes l) (sym c.check.ensures ∙ c.if-not-check.false))
 
 pub judge-requires : goal.judge-requires
 judge-requires c =
-    let w = c in
-    let k = w in
-    let s = k in
-    let l = s.args.a.now in
-    row-tidy l (sound l (is_true (good_bytes l) (sym k.check.ensures ∙ not-false _ w.if-not-check.false-raw))) s.args.p c.row_for.result c.row_for.ensures
+    let l = c.args.a.now in
+    row-tidy l (sound l (is_true (good_bytes l) (sym c.check.ensures ∙ c.if-not-check.false))) c.args.p c.row_for.result c.row_for.ensures
 
 pub returns : goal.returns
 returns c =
-    let r = c in
-    let t = r in
-    let w = t in
-    let k = w in
-    let s = k in
-    let l = s.args.a.now in
-    let good : good_bytes l ≡ true = sym k.check.ensures ∙ not-false _ w.if-not-check.false-raw in
+    let l = c.args.a.now in
+    let good : good_bytes l ≡ true = sym c.check.ensures ∙ c.if-not-check.false in
     c.judge.ensures
-    ∙ row-decides l (sound l (is_true (good_bytes l) good)) s.args.p r.row_for.result r.row_for.ensures s.args.s
-    ∙ sym (decide-decides l s.args.p s.args.s good (is-valid s.args.p w.if-p-eq0.false (omega arith))
-    (set-known-at l _ s.args.s _ _ w.role_count.ensures t.set_Known.ensures (not-false _ t.if-not-set_known.false-raw)))
+    ∙ row-decides l (sound l (is_true (good_bytes l) good)) c.args.p c.row_for.result c.row_for.ensures c.args.s
+    ∙ sym (decide-decides l c.args.p c.args.s good (is-valid c.args.p c.if-p-eq0.false (omega arith))
+    (set-known-at l _ c.args.s _ _ c.role_count.ensures c.set_known.ensures c.if-not-set_known.false))

@@ -16,27 +16,20 @@ use Rattle.cache.proofs.enter.Goals as goal
 
 pub enter_row-requires : goal.enter_row-requires
 enter_row-requires c =
-    let w = c in
-    let k = w in
-    let s = k in
-    let l = s.args.a.now in
-    let e = s.args.event.happening in
-    let g = s.args.event.state in
-    let bytes : Bytes l = λ p. (k.slice_known-1.given p).fits in (
-      subst⁻¹ Sound w.move_on.ensures (there-sound l s.requires.0 bytes e g s.requires.2 s.requires.3),
-      subst⁻¹ (λ (m : List ℕ). T (known (state_of m).roles e)) w.move_on.ensures (there-known l s.requires.0 bytes e g s.requires.2 s.requires.3 s.requires.1),
+    let l = c.args.a.now in
+    let e = c.args.event.happening in
+    let g = c.args.event.state in
+    let bytes : Bytes l = λ p. (c.slice_known-1.given p).fits in (
+      subst⁻¹ Sound c.move_on.ensures (there-sound l c.requires.0 bytes e g c.requires.2 c.requires.3),
+      subst⁻¹ (λ (m : List ℕ). T (known (state_of m).roles e)) c.move_on.ensures (there-known l c.requires.0 bytes e g c.requires.2 c.requires.3 c.requires.1),
     )
 
 pub returns : goal.returns
 returns c =
-    let r = c in
-    let w = r in
-    let k = w in
-    let s = k in
-    let l = s.args.a.now in
-    let p = s.args.event.permission in
-    let e = s.args.event.happening in
-    let g = s.args.event.state in
-    let bytes : Bytes l = λ p. (k.slice_known-1.given p).fits in
-    subst (λ (o : Out). Gives o r.enter_row.result r.enter_row.new.a)
-    (ap (λ (m : List ℕ). event_here m p e) w.move_on.ensures ∙ event-there l s.requires.0 bytes e g s.requires.2 s.requires.3 p) r.enter_row.ensures
+    let l = c.args.a.now in
+    let p = c.args.event.permission in
+    let e = c.args.event.happening in
+    let g = c.args.event.state in
+    let bytes : Bytes l = λ p. (c.slice_known-1.given p).fits in
+    subst (λ (o : Out). Gives o c.enter_row.result c.enter_row.new.a)
+    (ap (λ (m : List ℕ). event_here m p e) c.move_on.ensures ∙ event-there l c.requires.0 bytes e g c.requires.2 c.requires.3 p) c.enter_row.ensures

@@ -64,45 +64,31 @@ fresh e w = go (settle fits e blank) (case fits e blank)
 
 pub settle-settled-requires : goal.settle-settled-requires
 settle-settled-requires c =
-    let s = c in
-    (blank-proper c.blank.result c.blank.ensures, known-64 s.args.a.now s.requires.0 s.args.e s.requires.2)
+    (blank-proper c.blank.result c.blank.ensures, known-64 c.args.a.now c.requires.0 c.args.e c.requires.2)
 
 pub returns-in-Contradiction : goal.returns-in-Contradiction
 returns-in-Contradiction c =
-    let t = c in
-    let b = t in
-    let s = b in
-    refuses s.args.a.now s.requires.0 s.args.p s.args.i s.args.e s.requires.1 Contradiction tt
-    (answered s.args.e (row_of b.blank.result) blank t.settle-settled.result _ (stored⇒row b.blank.result blank b.blank.ensures) t.settle-settled.ensures c.in-Contradiction.is) refl
+    refuses c.args.a.now c.requires.0 c.args.p c.args.i c.args.e c.requires.1 Contradiction tt
+    (answered c.args.e (row_of c.blank.result) blank c.settle-settled.result _ (stored⇒row c.blank.result blank c.blank.ensures) c.settle-settled.ensures c.in-Contradiction.is) refl
 
 pub returns-in-Full : goal.returns-in-Full
 returns-in-Full c =
-    let t = c in
-    let b = t in
-    let s = b in
-    refuses s.args.a.now s.requires.0 s.args.p s.args.i s.args.e s.requires.1 Full tt
-    (answered s.args.e (row_of b.blank.result) blank t.settle-settled.result _ (stored⇒row b.blank.result blank b.blank.ensures) t.settle-settled.ensures c.in-Full.is) refl
+    refuses c.args.a.now c.requires.0 c.args.p c.args.i c.args.e c.requires.1 Full tt
+    (answered c.args.e (row_of c.blank.result) blank c.settle-settled.result _ (stored⇒row c.blank.result blank c.blank.ensures) c.settle-settled.ensures c.in-Full.is) refl
 
 pub returns-in-Forgotten : goal.returns-in-Forgotten
 returns-in-Forgotten c =
-    let t = c in
-    let b = t in
-    let s = b in
-    drops s.args.a.now s.requires.0 s.args.p s.args.i s.args.e s.requires.1 (λ p. (b.slice_known-1.given p).fits)
-    (answered s.args.e (row_of b.blank.result) blank t.settle-settled.result _ (stored⇒row b.blank.result blank b.blank.ensures) t.settle-settled.ensures c.in-Forgotten.is)
+    drops c.args.a.now c.requires.0 c.args.p c.args.i c.args.e c.requires.1 (λ p. (c.slice_known-1.given p).fits)
+    (answered c.args.e (row_of c.blank.result) blank c.settle-settled.result _ (stored⇒row c.blank.result blank c.blank.ensures) c.settle-settled.ensures c.in-Forgotten.is)
 
 pub put_new-requires : goal.put_new-requires
 put_new-requires c =
-    let told = c in
-    let t = told in
-    let b = t in
-    let s = b in
-    let ew = stored⇒row b.blank.result blank b.blank.ensures in (
-      s.requires.0,
-      s.requires.1,
-      fresh s.args.e t.settle-settled.result.row
-          (t.settle-settled.ensures.row ∙ ap (λ (x : Row). stored_row (settle fits s.args.e x).row) ew)
-          (answered s.args.e (row_of b.blank.result) blank t.settle-settled.result _ ew t.settle-settled.ensures told.in-Recorded.is),
+    let ew = stored⇒row c.blank.result blank c.blank.ensures in (
+      c.requires.0,
+      c.requires.1,
+      fresh c.args.e c.settle-settled.result.row
+          (c.settle-settled.ensures.row ∙ ap (λ (x : Row). stored_row (settle fits c.args.e x).row) ew)
+          (answered c.args.e (row_of c.blank.result) blank c.settle-settled.result _ ew c.settle-settled.ensures c.in-Recorded.is),
     )
 
 pub returns-in-Recorded : goal.returns-in-Recorded

@@ -8,7 +8,7 @@ use lib.Dec.{eqb}
 use Rattle.meaning.specs.declared.Happening.{Happening}
 use Rattle.meaning.specs.Rows.{Row, fits, settle}
 use Rattle.area.specs.State.{row_for, with_row, state_of, area_of}
-use Rattle.rows.specs.Stored.{row_of}
+use Rattle.rows.specs.Stored.{Proper, row_of}
 use Rattle.rows.proofs.Padded.{stored⇒row}
 use Rattle.table.specs.Table.{rows_in, Sound, found_for}
 use Rattle.table.specs.declared.Found.TheVariants.{At}
@@ -45,73 +45,55 @@ module _ (l : List ℕ) (s : Sound l) (p i : ℕ) (e : Happening) (f : found_for
 
 pub row_at-requires : goal.row_at-requires
 row_at-requires c =
-    let s = c in
-    (s.requires.0, row_inside s.args.a.now s.requires.0 s.args.p s.args.i s.requires.1)
+    (c.requires.0, row_inside c.args.a.now c.requires.0 c.args.p c.args.i c.requires.1)
+
+-- the row at hand is a good one
+proper : (c : After-row_at) → Proper c.row_at.result.opens
+proper c =
+    let a = c.args in
+    read-proper a.a.now c.requires.0 a.i (row_inside a.a.now c.requires.0 a.p a.i c.requires.1) c.row_at.result c.row_at.ensures
 
 pub settle-settled-requires : goal.settle-settled-requires
-settle-settled-requires c =
-    let s = c in
-    let l = s.args.a.now in
-    (read-proper l s.requires.0 s.args.i (row_inside l s.requires.0 s.args.p s.args.i s.requires.1) c.row_at.result c.row_at.ensures, known-64 l s.requires.0 s.args.e s.requires.2)
+settle-settled-requires c = (proper (goal.at.settle-settled-requires c).After-row_at, known-64 c.args.a.now c.requires.0 c.args.e c.requires.2)
 
 pub returns-in-Contradiction : goal.returns-in-Contradiction
 returns-in-Contradiction c =
-    let t = c in
-    let r = t in
-    let s = r in
-    let l = s.args.a.now in
-    let ew = stored⇒row r.row_at.result _ r.row_at.ensures ∙ row-there l s.requires.0 s.args.p s.args.i s.requires.1 in
-    refuses l s.requires.0 s.args.p s.args.i s.args.e s.requires.1 Contradiction
-    (answered s.args.e (row_of r.row_at.result) (row_for s.args.p (rows_in l)) t.settle-settled.result _ ew t.settle-settled.ensures c.in-Contradiction.is) refl
+    let l = c.args.a.now in
+    let ew = stored⇒row c.row_at.result _ c.row_at.ensures ∙ row-there l c.requires.0 c.args.p c.args.i c.requires.1 in
+    refuses l c.requires.0 c.args.p c.args.i c.args.e c.requires.1 Contradiction
+    (answered c.args.e (row_of c.row_at.result) (row_for c.args.p (rows_in l)) c.settle-settled.result _ ew c.settle-settled.ensures c.in-Contradiction.is) refl
 
 pub returns-in-Full : goal.returns-in-Full
 returns-in-Full c =
-    let t = c in
-    let r = t in
-    let s = r in
-    let l = s.args.a.now in
-    let ew = stored⇒row r.row_at.result _ r.row_at.ensures ∙ row-there l s.requires.0 s.args.p s.args.i s.requires.1 in
-    refuses l s.requires.0 s.args.p s.args.i s.args.e s.requires.1 Full
-    (answered s.args.e (row_of r.row_at.result) (row_for s.args.p (rows_in l)) t.settle-settled.result _ ew t.settle-settled.ensures c.in-Full.is) refl
+    let l = c.args.a.now in
+    let ew = stored⇒row c.row_at.result _ c.row_at.ensures ∙ row-there l c.requires.0 c.args.p c.args.i c.requires.1 in
+    refuses l c.requires.0 c.args.p c.args.i c.args.e c.requires.1 Full
+    (answered c.args.e (row_of c.row_at.result) (row_for c.args.p (rows_in l)) c.settle-settled.result _ ew c.settle-settled.ensures c.in-Full.is) refl
 
 pub put_over-requires : goal.put_over-requires
 put_over-requires c =
-    let t = c in
-    let s = t in
-    (s.requires.0, s.requires.1, settled-tidy s.args.e t.row_at.result t.settle-settled.result (settle-settled-requires (goal.at.put_over-requires t).After-row_at tt).0.tidy t.settle-settled.ensures)
+    (c.requires.0, c.requires.1, settled-tidy c.args.e c.row_at.result c.settle-settled.result (proper (goal.at.put_over-requires c).After-row_at).tidy c.settle-settled.ensures)
 
 pub put_over-requires-in-Recorded : goal.put_over-requires-in-Recorded
 put_over-requires-in-Recorded c =
-    let t = c in
-    let s = t in
-    (s.requires.0, s.requires.1, settled-tidy s.args.e t.row_at.result t.settle-settled.result (settle-settled-requires (goal.at.put_over-requires-in-Recorded t).After-row_at tt).0.tidy t.settle-settled.ensures)
+    (c.requires.0, c.requires.1, settled-tidy c.args.e c.row_at.result c.settle-settled.result (proper (goal.at.put_over-requires-in-Recorded c).After-row_at).tidy c.settle-settled.ensures)
 
 pub returns-in-Forgotten : goal.returns-in-Forgotten
 returns-in-Forgotten c =
-    let w = c in
-    let told = w in
-    let t = told in
-    let r = t in
-    let s = r in
-    let l = s.args.a.now in
-    let v = row_for s.args.p (rows_in l) in
-    let ew = stored⇒row r.row_at.result _ r.row_at.ensures ∙ row-there l s.requires.0 s.args.p s.args.i s.requires.1 in
-    puts l s.requires.0 s.args.p s.args.i s.args.e s.requires.1 Forgotten
-    (answered s.args.e (row_of r.row_at.result) v t.settle-settled.result _ ew t.settle-settled.ensures told.in-Forgotten.is) refl _ _
-    (settled-row s.args.e (row_of r.row_at.result) v t.settle-settled.result ew t.settle-settled.ensures)
-    w.put_over.ensures
+    let l = c.args.a.now in
+    let v = row_for c.args.p (rows_in l) in
+    let ew = stored⇒row c.row_at.result _ c.row_at.ensures ∙ row-there l c.requires.0 c.args.p c.args.i c.requires.1 in
+    puts l c.requires.0 c.args.p c.args.i c.args.e c.requires.1 Forgotten
+    (answered c.args.e (row_of c.row_at.result) v c.settle-settled.result _ ew c.settle-settled.ensures c.in-Forgotten.is) refl _ _
+    (settled-row c.args.e (row_of c.row_at.result) v c.settle-settled.result ew c.settle-settled.ensures)
+    c.put_over.ensures
 
 pub returns-in-Recorded : goal.returns-in-Recorded
 returns-in-Recorded c =
-    let w = c in
-    let told = w in
-    let t = told in
-    let r = t in
-    let s = r in
-    let l = s.args.a.now in
-    let v = row_for s.args.p (rows_in l) in
-    let ew = stored⇒row r.row_at.result _ r.row_at.ensures ∙ row-there l s.requires.0 s.args.p s.args.i s.requires.1 in
-    puts l s.requires.0 s.args.p s.args.i s.args.e s.requires.1 Recorded
-    (answered s.args.e (row_of r.row_at.result) v t.settle-settled.result _ ew t.settle-settled.ensures told.in-Recorded.is) refl _ _
-    (settled-row s.args.e (row_of r.row_at.result) v t.settle-settled.result ew t.settle-settled.ensures)
-    w.put_over-in-Recorded.ensures
+    let l = c.args.a.now in
+    let v = row_for c.args.p (rows_in l) in
+    let ew = stored⇒row c.row_at.result _ c.row_at.ensures ∙ row-there l c.requires.0 c.args.p c.args.i c.requires.1 in
+    puts l c.requires.0 c.args.p c.args.i c.args.e c.requires.1 Recorded
+    (answered c.args.e (row_of c.row_at.result) v c.settle-settled.result _ ew c.settle-settled.ensures c.in-Recorded.is) refl _ _
+    (settled-row c.args.e (row_of c.row_at.result) v c.settle-settled.result ew c.settle-settled.ensures)
+    c.put_over-in-Recorded.ensures

@@ -5,17 +5,11 @@ use Rattle.cache.proofs.enter_row.Goals as goal
 
 pub enter_over-requires : goal.enter_over-requires
 enter_over-requires c =
-    let i = c in
-    let f = i in
-    let s = f in
-    (s.requires.0, sym f.find.ensures ∙ i.in-At.is, s.requires.1)
+    (c.requires.0, sym c.find.ensures ∙ c.in-At.is, c.requires.1)
 
 pub enter_new-requires : goal.enter_new-requires
 enter_new-requires c =
-    let i = c in
-    let f = i in
-    let s = f in
-    (s.requires.0, sym f.find.ensures ∙ i.in-Vacant.is, s.requires.1)
+    (c.requires.0, sym c.find.ensures ∙ c.in-Vacant.is, c.requires.1)
 
 pub returns-in-At : goal.returns-in-At
 returns-in-At c = c.enter_over.ensures

@@ -19,7 +19,7 @@ use Rattle.calls.specs.Calls.{valid, event_in}
 use Rattle.calls.specs.Answers.{Gives}
 use Rattle.cache.proofs.Calling.{is_true, is-valid, not_valid, roles-few}
 use Rattle.cache.proofs.Fronts.{event-1, event-3, event-5, event-4, event-13, event-14, event-go}
-use Rattle.cache.proofs.event.Goals.{After-due-due, After-happened-e, Else-kind-gt-LAST_KIND, Else-p-eq0}
+use Rattle.cache.proofs.event.Goals.{After-due-due, After-happened-e}
 use Rattle.cache.proofs.event.Goals as goal
 
 -- the test asked of the happening, with the role count that was read
@@ -29,7 +29,7 @@ known_at l n e f b t q w h k = sym (ap (λ (x : ℕ). known x f) q) ∙ sym (ap 
 -- past the refusals 1, 3 and 5
 module _ (c : After-happened-e) where
   abbrev good : good_bytes c.args.a.now ≡ true
-  good = sym c.check.ensures ∙ not-false _ c.if-not-check.false-raw
+  good = sym c.check.ensures ∙ c.if-not-check.false
 
 -- past the refusal 4: an event of known roles, and the state in which it is due
 module _ (c : After-due-due) where
@@ -43,7 +43,7 @@ module _ (c : After-due-due) where
   e = happened start.args.kind start.args.number
 
   is-good : good_bytes l ≡ true
-  is-good = good (c {- Else-p-eq0 -})
+  is-good = sym c.check.ensures ∙ c.if-not-check.false
 
   ok : valid start.args.p ≡ true
   ok = let s = start in is-valid s.args.p c.if-p-eq0.false (omega arith)
@@ -53,96 +53,68 @@ module _ (c : After-due-due) where
 
   is_known : known (state_of l).roles e ≡ true
   is_known =
-      let o = c in
-      let t = o in
-      let r = t in
-      let h = r in
-      known_at l r.role_count.result h.happened-e.result _ _ _ r.role_count.ensures h.happened-e.ensures t.is_known.ensures (not-false _ o.if-not-is_known.false)
+      known_at l c.role_count.result c.happened-e.result _ _ _ c.role_count.ensures c.happened-e.ensures c.is_known.ensures c.if-not-is_known.false
 
   is-due : c.due-due.result ≡ due e (state_of l).policy
   is-due = c.due-due.ensures ∙ ap₂ {C = ℕ} (λ (f : Happening) (i : ℕ). due f i) c.happened-e.ensures c.policy_state.ensures
 
 pub returns-then-not-check : goal.returns-then-not-check
 returns-then-not-check c =
-    let k = c in
-    let s = k in
-    event-1 s.args.a.now s.args.p s.args.kind s.args.number s.args.state (sym k.check.ensures ∙ not-true _ c.if-not-check.true-raw)
+    event-1 c.args.a.now c.args.p c.args.kind c.args.number c.args.state (sym c.check.ensures ∙ c.if-not-check.true)
 
 pub returns-then-p-eq0 : goal.returns-then-p-eq0
 returns-then-p-eq0 c =
-    let k = c in
-    let s = k in
-    event-3 s.args.a.now s.args.p s.args.kind s.args.number s.args.state (sym k.check.ensures ∙ not-false _ c.if-not-check.false-raw) (not_valid s.args.p c.if-p-eq0.true)
+    event-3 c.args.a.now c.args.p c.args.kind c.args.number c.args.state (sym c.check.ensures ∙ c.if-not-check.false) (not_valid c.args.p c.if-p-eq0.true)
 
 pub returns-then-kind-gt-LAST_KIND : goal.returns-then-kind-gt-LAST_KIND
 returns-then-kind-gt-LAST_KIND c =
-    let t = c in
-    let k = t in
-    let s = k in
-    event-5 s.args.a.now s.args.p s.args.kind s.args.number s.args.state (sym k.check.ensures ∙ not-false _ t.if-not-check.false-raw) (is-valid s.args.p t.if-p-eq0.false (omega arith)) c.if-kind-gt-LAST_KIND.true
+    event-5 c.args.a.now c.args.p c.args.kind c.args.number c.args.state (sym c.check.ensures ∙ c.if-not-check.false) (is-valid c.args.p c.if-p-eq0.false (omega arith)) c.if-kind-gt-LAST_KIND.true
 
 pub role_count-requires : goal.role_count-requires
 role_count-requires c =
-    let h = c in
-    sound h.args.a.now (is_true _ (good (goal.at.role_count-requires h).Else-kind-gt-LAST_KIND))
+    sound c.args.a.now (is_true _ (good (goal.at.role_count-requires c).After-happened-e))
 
 pub is_known-requires : goal.is_known-requires
 is_known-requires c =
-    let h = c in
-    roles-few h.args.a.now c.role_count.result (is_true _ (good (goal.at.is_known-requires h).Else-kind-gt-LAST_KIND)) c.role_count.ensures
+    roles-few c.args.a.now c.role_count.result (is_true _ (good (goal.at.is_known-requires c).After-happened-e)) c.role_count.ensures
 
 pub returns-then-not-is_known : goal.returns-then-not-is_known
 returns-then-not-is_known c =
-    let t = c in
-    let r = t in
-    let h = r in
-    let s = h in
-    event-4 s.args.a.now s.args.p s.args.kind s.args.number s.args.state (good (goal.at.returns-then-not-is_known h).Else-kind-gt-LAST_KIND) (is-valid s.args.p h.if-p-eq0.false (omega arith)) h.if-kind-gt-LAST_KIND.false
-    (known_at s.args.a.now r.role_count.result h.happened-e.result _ _ _ r.role_count.ensures h.happened-e.ensures t.is_known.ensures (not-true _ c.if-not-is_known.true-raw))
+    event-4 c.args.a.now c.args.p c.args.kind c.args.number c.args.state (good (goal.at.returns-then-not-is_known c).After-happened-e) (is-valid c.args.p c.if-p-eq0.false (omega arith)) c.if-kind-gt-LAST_KIND.false
+    (known_at c.args.a.now c.role_count.result c.happened-e.result _ _ _ c.role_count.ensures c.happened-e.ensures c.is_known.ensures c.if-not-is_known.true)
 
 pub policy_state-requires : goal.policy_state-requires
 policy_state-requires c =
-    let h = c in
-    sound h.args.a.now (is_true _ (good (goal.at.policy_state-requires h).Else-p-eq0))
+    sound c.args.a.now (is_true _ (good (goal.at.policy_state-requires c).After-happened-e))
 
 pub due-due-requires : goal.due-due-requires
 due-due-requires c =
-    let h = c in
-    let l = h.args.a.now in
-    subst⁻¹ (λ (i : ℕ). i ≤ last_policy_state) c.policy_state.ensures (good-state l (is_true _ (good (goal.at.due-due-requires h).Else-p-eq0))).policy-small
+    let l = c.args.a.now in
+    subst⁻¹ (λ (i : ℕ). i ≤ last_policy_state) c.policy_state.ensures (good-state l (is_true _ (good (goal.at.due-due-requires c).After-happened-e))).policy-small
 
 pub returns-then-state-due-2 : goal.returns-then-state-due-2
 returns-then-state-due-2 c =
-    let d = c in
-    let s = start (goal.at.returns-then-state-due-2 d).After-due-due in
-    event-13 (l (goal.at.returns-then-state-due-2 d).After-due-due) s.args.p s.args.kind s.args.number s.args.state (is-good (goal.at.returns-then-state-due-2 d).After-due-due) (ok (goal.at.returns-then-state-due-2 d).After-due-due) (few (goal.at.returns-then-state-due-2 d).After-due-due) (is_known (goal.at.returns-then-state-due-2 d).After-due-due) d.due-due.result (is-due (goal.at.returns-then-state-due-2 d).After-due-due) c.if-state-due-2.true
+    let s = start (goal.at.returns-then-state-due-2 c).After-due-due in
+    event-13 (l (goal.at.returns-then-state-due-2 c).After-due-due) s.args.p s.args.kind s.args.number s.args.state (is-good (goal.at.returns-then-state-due-2 c).After-due-due) (ok (goal.at.returns-then-state-due-2 c).After-due-due) (few (goal.at.returns-then-state-due-2 c).After-due-due) (is_known (goal.at.returns-then-state-due-2 c).After-due-due) c.due-due.result (is-due (goal.at.returns-then-state-due-2 c).After-due-due) c.if-state-due-2.true
 
 pub returns-then-state-due : goal.returns-then-state-due
 returns-then-state-due c =
-    let d = c in
-    let s = start (goal.at.returns-then-state-due d).After-due-due in
-    event-14 (l (goal.at.returns-then-state-due d).After-due-due) s.args.p s.args.kind s.args.number s.args.state (is-good (goal.at.returns-then-state-due d).After-due-due) (ok (goal.at.returns-then-state-due d).After-due-due) (few (goal.at.returns-then-state-due d).After-due-due) (is_known (goal.at.returns-then-state-due d).After-due-due) d.due-due.result (is-due (goal.at.returns-then-state-due d).After-due-due) (omega (arith, c.if-state-due.true, c.if-state-due-2.false))
+    let s = start (goal.at.returns-then-state-due c).After-due-due in
+    event-14 (l (goal.at.returns-then-state-due c).After-due-due) s.args.p s.args.kind s.args.number s.args.state (is-good (goal.at.returns-then-state-due c).After-due-due) (ok (goal.at.returns-then-state-due c).After-due-due) (few (goal.at.returns-then-state-due c).After-due-due) (is_known (goal.at.returns-then-state-due c).After-due-due) c.due-due.result (is-due (goal.at.returns-then-state-due c).After-due-due) (omega (arith, c.if-state-due.true, c.if-state-due-2.false))
 
 pub enter-requires : goal.enter-requires
 enter-requires c =
-    let a = c in
-    let d = a in
-    let h = d in
-    let s = start (goal.at.enter-requires d).After-due-due in
-    let now : s.args.state ≡ d.due-due.result = a.if-state-due.false in (
-      sound (l (goal.at.enter-requires d).After-due-due) (is_true _ (is-good (goal.at.enter-requires d).After-due-due)),
-      subst⁻¹ (λ (f : Happening). T (known (state_of (l (goal.at.enter-requires d).After-due-due)).roles f)) h.happened-e.ensures (is_true _ (is_known (goal.at.enter-requires d).After-due-due)),
-      now ∙ is-due (goal.at.enter-requires d).After-due-due ∙ ap (λ (f : Happening). due f (state_of (l (goal.at.enter-requires d).After-due-due)).policy) (sym h.happened-e.ensures),
+    let s = start (goal.at.enter-requires c).After-due-due in
+    let now : s.args.state ≡ c.due-due.result = c.if-state-due.false in (
+      sound (l (goal.at.enter-requires c).After-due-due) (is_true _ (is-good (goal.at.enter-requires c).After-due-due)),
+      subst⁻¹ (λ (f : Happening). T (known (state_of (l (goal.at.enter-requires c).After-due-due)).roles f)) c.happened-e.ensures (is_true _ (is_known (goal.at.enter-requires c).After-due-due)),
+      now ∙ is-due (goal.at.enter-requires c).After-due-due ∙ ap (λ (f : Happening). due f (state_of (l (goal.at.enter-requires c).After-due-due)).policy) (sym c.happened-e.ensures),
       omega arith,
     )
 
 pub returns : goal.returns
 returns c =
-    let w = c in
-    let a = w in
-    let d = a in
-    let h = d in
-    let s = start (goal.at.returns d).After-due-due in
-    let now : s.args.state ≡ d.due-due.result = a.if-state-due.false in
-    event-go (l (goal.at.returns d).After-due-due) s.args.p s.args.kind s.args.number s.args.state (is-good (goal.at.returns d).After-due-due) (ok (goal.at.returns d).After-due-due) (few (goal.at.returns d).After-due-due) (is_known (goal.at.returns d).After-due-due) d.due-due.result (is-due (goal.at.returns d).After-due-due) now (omega arith) _ _
-    (subst (λ (f : Happening). Gives (event_in (l (goal.at.returns d).After-due-due) s.args.p f s.args.state) w.enter.result w.enter.new.a) h.happened-e.ensures w.enter.ensures)
+    let s = start (goal.at.returns c).After-due-due in
+    let now : s.args.state ≡ c.due-due.result = c.if-state-due.false in
+    event-go (l (goal.at.returns c).After-due-due) s.args.p s.args.kind s.args.number s.args.state (is-good (goal.at.returns c).After-due-due) (ok (goal.at.returns c).After-due-due) (few (goal.at.returns c).After-due-due) (is_known (goal.at.returns c).After-due-due) c.due-due.result (is-due (goal.at.returns c).After-due-due) now (omega arith) _ _
+    (subst (λ (f : Happening). Gives (event_in (l (goal.at.returns c).After-due-due) s.args.p f s.args.state) c.enter.result c.enter.new.a) c.happened-e.ensures c.enter.ensures)

@@ -10,26 +10,16 @@ use Rattle.cache.proofs.forget.Goals as goal
 
 pub returns-then-not-check : goal.returns-then-not-check
 returns-then-not-check c =
-    let k = c in
-    let s = k in
-    forget-1 s.args.a.now s.args.p (sym k.check.ensures ∙ not-true _ c.if-not-check.true-raw)
+    forget-1 c.args.a.now c.args.p (sym c.check.ensures ∙ c.if-not-check.true)
 
 pub returns-then-p-eq0 : goal.returns-then-p-eq0
 returns-then-p-eq0 c =
-    let k = c in
-    let s = k in
-    forget-3 s.args.a.now s.args.p (sym k.check.ensures ∙ not-false _ c.if-not-check.false-raw) (not_valid s.args.p c.if-p-eq0.true)
+    forget-3 c.args.a.now c.args.p (sym c.check.ensures ∙ c.if-not-check.false) (not_valid c.args.p c.if-p-eq0.true)
 
 pub forget_row-requires : goal.forget_row-requires
 forget_row-requires c =
-    let k = c in
-    let s = k in
-    sound s.args.a.now (is_true _ (sym k.check.ensures ∙ not-false _ c.if-not-check.false-raw))
+    sound c.args.a.now (is_true _ (sym c.check.ensures ∙ c.if-not-check.false))
 
 pub returns : goal.returns
 returns c =
-    let w = c in
-    let t = w in
-    let k = t in
-    let s = k in
-    forget-go s.args.a.now s.args.p _ (sym k.check.ensures ∙ not-false _ t.if-not-check.false-raw) (is-valid s.args.p t.if-p-eq0.false (omega arith)) w.forget_row.ensures
+    forget-go c.args.a.now c.args.p _ (sym c.check.ensures ∙ c.if-not-check.false) (is-valid c.args.p c.if-p-eq0.false (omega arith)) c.forget_row.ensures

@@ -11,24 +11,15 @@ use Rattle.cache.proofs.forget_row.Goals as goal
 
 pub remove_at-requires : goal.remove_at-requires
 remove_at-requires c =
-    let i = c in
-    let f = i in
-    let s = f in
-    (s.requires, row_inside s.args.a.now s.requires s.args.p i.in-At.i (sym f.find.ensures ∙ i.in-At.is))
+    (c.requires, row_inside c.args.a.now c.requires c.args.p c.in-At.i (sym c.find.ensures ∙ c.in-At.is))
 
 pub returns-in-At : goal.returns-in-At
 returns-in-At c =
-    let w = c in
-    let i = w in
-    let f = i in
-    let s = f in
-    let end = w.remove_at.new.a in
+    let end = c.remove_at.new.a in
     let len : length end ≡ area_bytes = search rules in
     bytes-are end _ (λ p. (c.slice_known-in-At-1.given p).fits) len
-    (w.remove_at.ensures ∙ ap words_of (state-out s.args.a.now s.requires s.args.p i.in-At.i (sym f.find.ensures ∙ i.in-At.is) blank refl))
+    (c.remove_at.ensures ∙ ap words_of (state-out c.args.a.now c.requires c.args.p c.in-At.i (sym c.find.ensures ∙ c.in-At.is) blank refl))
 
 pub returns-in-Vacant : goal.returns-in-Vacant
 returns-in-Vacant c =
-    let f = c in
-    let s = f in
-    sym (area-kept s.args.a.now s.requires s.args.p _ (sym f.find.ensures ∙ c.in-Vacant.is) blank refl (λ p. (f.slice_known-1.given p).fits))
+    sym (area-kept c.args.a.now c.requires c.args.p _ (sym c.find.ensures ∙ c.in-Vacant.is) blank refl (λ p. (c.slice_known-1.given p).fits))

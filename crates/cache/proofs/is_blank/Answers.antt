@@ -10,6 +10,5 @@ use Rattle.cache.proofs.is_blank.Goals as goal
 
 pub returns : goal.returns
 returns c =
-    let s = c in
-    let w = s.args.w in
-    ap (λ (n : ℕ). eqb w.denied.bits 0 && eqb n 0) (tidy-count most_opens w.opens s.requires (omega arith))
+    let w = c.args.w in
+    ap (λ (n : ℕ). eqb w.denied.bits 0 && eqb n 0) (tidy-count most_opens w.opens c.requires (omega arith))

@@ -10,7 +10,7 @@ pub returns-in-Allow : goal.returns-in-Allow
 unfolding known roles_in
 returns-in-Allow c =
     let n = c.args.n in
-    c.set_Known.ensures ∙ sym (ap (λ (e : Happening). known n e) c.in-Allow.is)
+    c.set_known.ensures ∙ sym (ap (λ (e : Happening). known n e) c.in-Allow.is)
 
 pub returns-in-Deny : goal.returns-in-Deny
 unfolding known roles_in

@@ -10,17 +10,14 @@ use Rattle.cache.proofs.Calling.{open-1, open-2, open-go}
 use Rattle.cache.proofs.open.Goals as goal
 
 pub returns-then-a-ne-AREA_BYTES : goal.returns-then-a-ne-AREA_BYTES
-returns-then-a-ne-AREA_BYTES c = let s = c in open-1 s.args.a.now s.args.n s.args.state c.if-a-ne-AREA_BYTES.true
+returns-then-a-ne-AREA_BYTES c = open-1 c.args.a.now c.args.n c.args.state c.if-a-ne-AREA_BYTES.true
 
 pub returns-then-n : goal.returns-then-n
-returns-then-n c = let s = c in open-2 s.args.a.now s.args.n s.args.state c.if-a-ne-AREA_BYTES.false c.if-n.true
+returns-then-n c = open-2 c.args.a.now c.args.n c.args.state c.if-a-ne-AREA_BYTES.false c.if-n.true
 
 pub returns : goal.returns
 returns c =
-    let k = c in
-    let t = k in
-    let s = t in
-    let end = k.clear_all.new.a in
-    let len : length end ≡ area_bytes = omega (arith, t.if-a-ne-AREA_BYTES.false) in
-    open-go s.args.a.now s.args.n s.args.state end t.if-a-ne-AREA_BYTES.false t.if-n.false
-    (bytes-are end (opened s.args.n s.args.state) (λ p. (c.slice_known-2-1.given p).fits) len k.clear_all.ensures)
+    let end = c.clear_all.new.a in
+    let len : length end ≡ area_bytes = omega (arith, c.if-a-ne-AREA_BYTES.false) in
+    open-go c.args.a.now c.args.n c.args.state end c.if-a-ne-AREA_BYTES.false c.if-n.false
+    (bytes-are end (opened c.args.n c.args.state) (λ p. (c.slice_known-2-1.given p).fits) len c.clear_all.ensures)

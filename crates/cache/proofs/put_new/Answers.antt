@@ -76,50 +76,32 @@ module _ (l : List ℕ) (s : Sound l) (p i : ℕ) (e : Happening) (w : value.Row
 
 pub is_blank-requires : goal.is_blank-requires
 is_blank-requires c =
-    let s = c in
-    fitting-tidy s.args.w _ s.requires.2.row (T_true _ s.requires.2.room)
+    fitting-tidy c.args.w _ c.requires.2.row (T_true _ c.requires.2.room)
 
 pub returns-then-is_blank : goal.returns-then-is_blank
 returns-then-is_blank c =
-    let b = c in
-    let s = b in
-    nothing s.args.a.now s.requires.0 s.args.p s.args.i s.args.e s.args.w s.requires.1 s.requires.2
-    (λ p. (b.slice_known-1.given p).fits) (sym b.is_blank.ensures ∙ c.if-is_blank.true)
+    nothing c.args.a.now c.requires.0 c.args.p c.args.i c.args.e c.args.w c.requires.1 c.requires.2
+    (λ p. (c.slice_known-1.given p).fits) (sym c.is_blank.ensures ∙ c.if-is_blank.true)
 
 pub returns-then-rows_used-eq-MOST_ROWS : goal.returns-then-rows_used-eq-MOST_ROWS
 returns-then-rows_used-eq-MOST_ROWS c =
-    let t = c in
-    let u = t in
-    let o = u in
-    let b = o in
-    let s = b in
-    let l = s.args.a.now in
-    no_more l s.requires.0 s.args.p s.args.i s.args.e s.args.w s.requires.1 s.requires.2
-    (λ p. (b.slice_known-1.given p).fits) (sym b.is_blank.ensures ∙ o.if-is_blank.false)
-    (omega (arith, u.rows_used.ensures, t.if-rows_used-eq-MOST_ROWS.true)) c.no_room.result c.no_room.ensures
+    let l = c.args.a.now in
+    no_more l c.requires.0 c.args.p c.args.i c.args.e c.args.w c.requires.1 c.requires.2
+    (λ p. (c.slice_known-1.given p).fits) (sym c.is_blank.ensures ∙ c.if-is_blank.false)
+    (omega (arith, c.rows_used.ensures, c.if-rows_used-eq-MOST_ROWS.true)) c.no_room.result c.no_room.ensures
 
 pub insert_at-requires : goal.insert_at-requires
 insert_at-requires c =
-    let t = c in
-    let u = t in
-    let b = u in
-    let s = b in
-    let l = s.args.a.now in
-    let few : length (rows_in l) < most_rows = omega (arith, u.rows_used.ensures, t.if-rows_used-eq-MOST_ROWS.false, s.requires.0.few) in
-    (s.requires.0, place_inside l s.requires.0 s.args.p s.args.i s.requires.1, few, is_blank-requires (goal.at.insert_at-requires b).Start tt)
+    let l = c.args.a.now in
+    let few : length (rows_in l) < most_rows = omega (arith, c.rows_used.ensures, c.if-rows_used-eq-MOST_ROWS.false, c.requires.0.few) in
+    (c.requires.0, place_inside l c.requires.0 c.args.p c.args.i c.requires.1, few, fitting-tidy c.args.w _ c.requires.2.row (T_true _ c.requires.2.room))
 
 pub returns : goal.returns
 returns c =
-    let w = c in
-    let t = w in
-    let u = t in
-    let o = u in
-    let b = o in
-    let s = b in
-    let l = s.args.a.now in
-    let few : length (rows_in l) < most_rows = omega (arith, u.rows_used.ensures, t.if-rows_used-eq-MOST_ROWS.false, s.requires.0.few) in
-    let end = w.insert_at.new.a in
+    let l = c.args.a.now in
+    let few : length (rows_in l) < most_rows = omega (arith, c.rows_used.ensures, c.if-rows_used-eq-MOST_ROWS.false, c.requires.0.few) in
+    let end = c.insert_at.new.a in
     let len : length end ≡ area_bytes = search rules in
-    made l s.requires.0 s.args.p s.args.i s.args.e s.args.w s.requires.1 s.requires.2 end few
+    made l c.requires.0 c.args.p c.args.i c.args.e c.args.w c.requires.1 c.requires.2 end few
     (bytes-are end _ (λ p. (c.slice_known-2-1.given p).fits) len
-    (w.insert_at.ensures ∙ ap words_of (state-new l s.requires.0 s.args.p s.args.i s.requires.1 (row_of s.args.w) (sym b.is_blank.ensures ∙ o.if-is_blank.false))))
+    (c.insert_at.ensures ∙ ap words_of (state-new l c.requires.0 c.args.p c.args.i c.requires.1 (row_of c.args.w) (sym c.is_blank.ensures ∙ c.if-is_blank.false))))

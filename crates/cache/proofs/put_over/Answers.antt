@@ -11,32 +11,24 @@ use Rattle.cache.proofs.put_over.Goals as goal
 
 pub remove_at-requires : goal.remove_at-requires
 remove_at-requires c =
-    let s = c in
-    (s.requires.0, row_inside s.args.a.now s.requires.0 s.args.p s.args.i s.requires.1)
+    (c.requires.0, row_inside c.args.a.now c.requires.0 c.args.p c.args.i c.requires.1)
 
 pub put_at-requires : goal.put_at-requires
 put_at-requires c =
-    let s = c in
-    (s.requires.0, row_inside s.args.a.now s.requires.0 s.args.p s.args.i s.requires.1, s.requires.2)
+    (c.requires.0, row_inside c.args.a.now c.requires.0 c.args.p c.args.i c.requires.1, c.requires.2)
 
 pub returns-then-is_blank : goal.returns-then-is_blank
 returns-then-is_blank c =
-    let w = c in
-    let t = w in
-    let s = t in
-    let end = w.remove_at.new.a in
+    let end = c.remove_at.new.a in
     let len : length end ≡ area_bytes = search rules in
-    let b = sym t.is_blank.ensures ∙ t.if-is_blank.true in
+    let b = sym c.is_blank.ensures ∙ c.if-is_blank.true in
     bytes-are end _ (λ p. (c.slice_known-then-is_blank-1.given p).fits) len
-    (w.remove_at.ensures ∙ ap words_of (state-out s.args.a.now s.requires.0 s.args.p s.args.i s.requires.1 (row_of s.args.w) b))
+    (c.remove_at.ensures ∙ ap words_of (state-out c.args.a.now c.requires.0 c.args.p c.args.i c.requires.1 (row_of c.args.w) b))
 
 pub returns-else-is_blank : goal.returns-else-is_blank
 returns-else-is_blank c =
-    let w = c in
-    let t = w in
-    let s = t in
-    let end = w.put_at.new.a in
+    let end = c.put_at.new.a in
     let len : length end ≡ area_bytes = search rules in
-    let b = sym t.is_blank.ensures ∙ t.if-is_blank.false in
+    let b = sym c.is_blank.ensures ∙ c.if-is_blank.false in
     bytes-are end _ (λ p. (c.slice_known-else-is_blank-1.given p).fits) len
-    (w.put_at.ensures ∙ ap words_of (state-over s.args.a.now s.requires.0 s.args.p s.args.i s.requires.1 (row_of s.args.w) b))
+    (c.put_at.ensures ∙ ap words_of (state-over c.args.a.now c.requires.0 c.args.p c.args.i c.requires.1 (row_of c.args.w) b))

@@ -10,5 +10,4 @@ use Rattle.cache.proofs.set_known.Goals as goal
 
 pub returns : goal.returns
 returns c =
-    let s = c in
-    part-test _ _ (omega arith) c.outside.ensures ∙ ap (λ (t : ℕ). part_of s.args.s.bits t) (c.all_below.ensures ∙ below64-all_below s.args.n s.requires)
+    part-test _ _ (omega arith) c.outside.ensures ∙ ap (λ (t : ℕ). part_of c.args.s.bits t) (c.all_below.ensures ∙ below64-all_below c.args.n c.requires)
