@@ -5,18 +5,15 @@ use Rattle.names.proofs.pair_good.Goals as goal
 
 pub returns-then-n-eq0 : goal.returns-then-n-eq0
 returns-then-n-eq0 c =
-    let h = c in
-    let a = h.args in
-    pair-none a.t.now a.r h.half-start.result h.half-n.result h.half-start.ensures.0 h.half-n.ensures.0 c.if-n-eq0.true
+    let a = c.args in
+    pair-none a.t.now a.r c.half-start.result c.half-n.result c.half-start.ensures.0 c.half-n.ensures.0 c.if-n-eq0.true
 
 pub returns-then-n-gt-MOST_NAME : goal.returns-then-n-gt-MOST_NAME
 returns-then-n-gt-MOST_NAME c =
-    let h = c in
-    let a = h.args in
-    pair-long a.t.now a.r h.half-start.result h.half-n.result h.half-start.ensures.0 h.half-n.ensures.0 c.if-n-eq0.false c.if-n-gt-MOST_NAME.true
+    let a = c.args in
+    pair-long a.t.now a.r c.half-start.result c.half-n.result c.half-start.ensures.0 c.half-n.ensures.0 c.if-n-eq0.false c.if-n-gt-MOST_NAME.true
 
 pub returns : goal.returns
 returns c =
-    let h = c in
-    let a = h.args in
-    pair_fits a.t.now a.r h.half-start.result h.half-n.result h.half-start.ensures.0 h.half-n.ensures.0 c.if-n-eq0.false c.if-n-gt-MOST_NAME.false
+    let a = c.args in
+    pair_fits a.t.now a.r c.half-start.result c.half-n.result c.half-start.ensures.0 c.half-n.ensures.0 c.if-n-eq0.false c.if-n-gt-MOST_NAME.false

@@ -7,30 +7,27 @@ use Rattle.names.proofs.TableLaws.{good-long, length-is, start_is, part_none, pa
 use Rattle.names.proofs.part_at.Goals as goal
 
 pub half-start-requires : goal.half-start-requires
-half-start-requires c = let s = c in let h = good-long s.args.t.now s.requires.0 in omega arith
+half-start-requires c = let h = good-long c.args.t.now c.requires.0 in omega arith
 
 pub half-n-requires : goal.half-n-requires
-half-n-requires c = let s = c in let h = good-long s.args.t.now s.requires.0 in omega arith
+half-n-requires c = let h = good-long c.args.t.now c.requires.0 in omega arith
 
 pub returns-then-n-eq0 : goal.returns-then-n-eq0
 returns-then-n-eq0 c =
-    let h = c in
-    let a = h.args in
+    let a = c.args in
     record {
-      bytes = part_none a.t.now a.r h.half-start.result h.half-n.result h.half-start.ensures.0 h.half-n.ensures.0 c.if-n-eq0.true;
-      place = λ n. absurd (n (sym (length-is a.t.now a.r h.half-start.result h.half-n.result h.half-start.ensures.0 h.half-n.ensures.0) ∙ c.if-n-eq0.true));
+      bytes = part_none a.t.now a.r c.half-start.result c.half-n.result c.half-start.ensures.0 c.half-n.ensures.0 c.if-n-eq0.true;
+      place = λ n. absurd (n (sym (length-is a.t.now a.r c.half-start.result c.half-n.result c.half-start.ensures.0 c.half-n.ensures.0) ∙ c.if-n-eq0.true));
     }
 
 pub slice_bounds-result-end-2 : goal.slice_bounds-result-end-2
 slice_bounds-result-end-2 c =
-    let s = c in
-    part-inside s.args.t.now s.args.r s.half-start.result s.half-n.result s.half-start.ensures.0 s.half-n.ensures.0 s.requires.0 s.requires.1 c.if-n-eq0.false
+    part-inside c.args.t.now c.args.r c.half-start.result c.half-n.result c.half-start.ensures.0 c.half-n.ensures.0 c.requires.0 c.requires.1 c.if-n-eq0.false
 
 pub returns : goal.returns
 returns c =
-    let h = c in
-    let a = h.args in
+    let a = c.args in
     record {
-      bytes = part-is a.t.now a.r h.half-start.result h.half-n.result h.half-start.ensures.0 h.half-n.ensures.0;
-      place = λ n. ap (λ (x : ℕ). (a.t.ref_ptr.0, x + a.t.ref_ptr.1)) (start_is a.t.now a.r h.half-start.result h.half-n.result h.half-start.ensures.0 h.half-n.ensures.0);
+      bytes = part-is a.t.now a.r c.half-start.result c.half-n.result c.half-start.ensures.0 c.half-n.ensures.0;
+      place = λ n. ap (λ (x : ℕ). (a.t.ref_ptr.0, x + a.t.ref_ptr.1)) (start_is a.t.now a.r c.half-start.result c.half-n.result c.half-start.ensures.0 c.half-n.ensures.0);
     }

@@ -22,13 +22,13 @@ pub returns-then-not-pair_good : goal.returns-then-not-pair_good
 returns-then-not-pair_good c =
     let l = c.loop-r in
     let t = c.args.t.now in
-    table_is t false l.invariant.1 (pairs-broken t l.r most_roles (omega arith) (sym c.pair_good.ensures ∙ not-true _ c.if-not-pair_good.true-raw))
+    table_is t false l.invariant.1 (pairs-broken t l.r most_roles (omega arith) (sym c.pair_good.ensures ∙ c.if-not-pair_good.true))
 
 pub loop-r-preserved : goal.loop-r-preserved
 loop-r-preserved c =
     let l = c.loop-r in
     let t = c.args.t.now in
-    (omega arith, l.invariant.1, rw add-one (pairs-more t l.r l.invariant.2 (sym c.pair_good.ensures ∙ not-false _ c.if-not-pair_good.false-raw)))
+    (omega arith, l.invariant.1, rw add-one (pairs-more t l.r l.invariant.2 (sym c.pair_good.ensures ∙ c.if-not-pair_good.false)))
 
 pub returns : goal.returns
 returns c =

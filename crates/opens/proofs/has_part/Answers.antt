@@ -51,10 +51,9 @@ loop-k-preserved c = any-miss _ (searched (goal.at.loop-k-preserved c).After-out
 pub returns : goal.returns
 unfolding has_part
 returns c =
-    let s = c in
-    let ws = words s.args.a.now in
-    any-end _ (take s.args.i (drop s.args.at ws)) c.loop-k.k c.loop-k.invariant
-    (omega (arith, length_run ws s.args.at s.args.i (spans-words s.requires)))
+    let ws = words c.args.a.now in
+    any-end _ (take c.args.i (drop c.args.at ws)) c.loop-k.k c.loop-k.invariant
+    (omega (arith, length_run ws c.args.at c.args.i (spans-words c.requires)))
 
 pub loop-k-init : goal.loop-k-init
 loop-k-init c = refl

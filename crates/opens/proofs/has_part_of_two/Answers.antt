@@ -45,13 +45,12 @@ module _ (c : After-is_part_of_either) where
 
 pub returns-then-outside-eq-MOST_ROLES : goal.returns-then-outside-eq-MOST_ROLES
 returns-then-outside-eq-MOST_ROLES c =
-    let s = c in
-    let ws = words s.args.a.now in
-    let b = s.requires.0.enough in
-    let earlier = any (part_of_either s.args.s.bits s.args.t.bits) (take s.args.i (drop s.args.at ws)) in
+    let ws = words c.args.a.now in
+    let b = c.requires.0.enough in
+    let earlier = any (part_of_either c.args.s.bits c.args.t.bits) (take c.args.i (drop c.args.at ws)) in
     sym (or-true earlier)
     ∙ ap (λ (x : Bool). earlier || x) (sym (is-part _ _ (omega arith) c.outside.ensures c.if-outside-eq-MOST_ROLES.true))
-    ∙ two-parts s.args.s.bits s.args.t.bits ws s.args.at s.args.i (omega (arith, length-words s.args.a.now)) s.requires.1
+    ∙ two-parts c.args.s.bits c.args.t.bits ws c.args.at c.args.i (omega (arith, length-words c.args.a.now)) c.requires.1
 
 pub get_word-requires : goal.get_word-requires
 get_word-requires c =
@@ -60,25 +59,22 @@ get_word-requires c =
 
 pub returns-then-is_part_of_either : goal.returns-then-is_part_of_either
 returns-then-is_part_of_either c =
-    let at = c in
-    ap (λ (x : Bool). x || part_of (s (goal.at.returns-then-is_part_of_either at).After-is_part_of_either).args.s.bits (s (goal.at.returns-then-is_part_of_either at).After-is_part_of_either).args.t.bits)
-    (any-hit _ (searched (goal.at.returns-then-is_part_of_either at).After-is_part_of_either) (k (goal.at.returns-then-is_part_of_either at).After-is_part_of_either) at.loop-k.invariant (there (goal.at.returns-then-is_part_of_either at).After-is_part_of_either) (here (goal.at.returns-then-is_part_of_either at).After-is_part_of_either c.if-is_part_of_either.true))
-    ∙ two-parts (s (goal.at.returns-then-is_part_of_either at).After-is_part_of_either).args.s.bits (s (goal.at.returns-then-is_part_of_either at).After-is_part_of_either).args.t.bits (ws (goal.at.returns-then-is_part_of_either at).After-is_part_of_either) (s (goal.at.returns-then-is_part_of_either at).After-is_part_of_either).args.at (s (goal.at.returns-then-is_part_of_either at).After-is_part_of_either).args.i (long (goal.at.returns-then-is_part_of_either at).After-is_part_of_either) (s (goal.at.returns-then-is_part_of_either at).After-is_part_of_either).requires.1
+    ap (λ (x : Bool). x || part_of (s (goal.at.returns-then-is_part_of_either c).After-is_part_of_either).args.s.bits (s (goal.at.returns-then-is_part_of_either c).After-is_part_of_either).args.t.bits)
+    (any-hit _ (searched (goal.at.returns-then-is_part_of_either c).After-is_part_of_either) (k (goal.at.returns-then-is_part_of_either c).After-is_part_of_either) c.loop-k.invariant (there (goal.at.returns-then-is_part_of_either c).After-is_part_of_either) (here (goal.at.returns-then-is_part_of_either c).After-is_part_of_either c.if-is_part_of_either.true))
+    ∙ two-parts (s (goal.at.returns-then-is_part_of_either c).After-is_part_of_either).args.s.bits (s (goal.at.returns-then-is_part_of_either c).After-is_part_of_either).args.t.bits (ws (goal.at.returns-then-is_part_of_either c).After-is_part_of_either) (s (goal.at.returns-then-is_part_of_either c).After-is_part_of_either).args.at (s (goal.at.returns-then-is_part_of_either c).After-is_part_of_either).args.i (long (goal.at.returns-then-is_part_of_either c).After-is_part_of_either) (s (goal.at.returns-then-is_part_of_either c).After-is_part_of_either).requires.1
 
 pub loop-k-preserved : goal.loop-k-preserved
 loop-k-preserved c = any-miss _ (searched (goal.at.loop-k-preserved c).After-is_part_of_either) (k (goal.at.loop-k-preserved c).After-is_part_of_either) c.loop-k.invariant (there (goal.at.loop-k-preserved c).After-is_part_of_either) (here (goal.at.loop-k-preserved c).After-is_part_of_either c.if-is_part_of_either.false)
 
 pub returns : goal.returns
 returns c =
-    let at = c in
-    let s = at in
-    let ws = words s.args.a.now in
-    let b = s.requires.0.enough in
+    let ws = words c.args.a.now in
+    let b = c.requires.0.enough in
     ap₂ ◌||◌
-    (any-end (part_of_either s.args.s.bits s.args.t.bits) (take s.args.i (drop s.args.at ws)) at.loop-k.k at.loop-k.invariant
-    (omega (arith, length-take s.args.i (drop s.args.at ws))))
-    (sym (is-no-part _ _ (omega arith) at.outside.ensures at.if-outside-eq-MOST_ROLES.false))
-    ∙ two-parts s.args.s.bits s.args.t.bits ws s.args.at s.args.i (omega (arith, length-words s.args.a.now)) s.requires.1
+    (any-end (part_of_either c.args.s.bits c.args.t.bits) (take c.args.i (drop c.args.at ws)) c.loop-k.k c.loop-k.invariant
+    (omega (arith, length-take c.args.i (drop c.args.at ws))))
+    (sym (is-no-part _ _ (omega arith) c.outside.ensures c.if-outside-eq-MOST_ROLES.false))
+    ∙ two-parts c.args.s.bits c.args.t.bits ws c.args.at c.args.i (omega (arith, length-words c.args.a.now)) c.requires.1
 
 pub loop-k-init : goal.loop-k-init
 loop-k-init c = refl

@@ -10,9 +10,8 @@ use Rattle.opens.proofs.is_part_of_either.Goals as goal
 
 pub returns-then-outside-ne-MOST_ROLES : goal.returns-then-outside-ne-MOST_ROLES
 returns-then-outside-ne-MOST_ROLES c =
-    let s = c in
-    sym (neither s.args.s.bits s.args.t.bits s.args.o.bits
-    (ap (part_of s.args.o.bits) (sym s.requires) ∙ is-no-part _ _ (omega arith) c.outside.ensures c.if-outside-ne-MOST_ROLES.true))
+    sym (neither c.args.s.bits c.args.t.bits c.args.o.bits
+    (ap (part_of c.args.o.bits) (sym c.requires) ∙ is-no-part _ _ (omega arith) c.outside.ensures c.if-outside-ne-MOST_ROLES.true))
 
 pub returns : goal.returns
 returns c = ap₂ ◌||◌ (part-test _ _ (omega arith) c.outside-2.ensures) (part-test _ _ (omega arith) c.outside-3.ensures)

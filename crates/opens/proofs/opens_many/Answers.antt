@@ -30,14 +30,13 @@ held : (c : After-has_part_of_two) → let s = c.args in let j = c.loop-j.j in
     stand_apart (take s.c (drop s.at (words s.a.now))) ≡ (stand_apart (take (j - 2) (drop s.at (words s.a.now))) && not c.has_part_of_two.result)
 held c =
     let at = c.loop-j in
-    let s = c in
-    let ws = words s.args.a.now in
+    let ws = words c.args.a.now in
     let o = c.get_word-in-loop-j in
     let t = c.get_word in
     let q = at.invariant.0.0 in
-    let w = spans-words s.requires.0 in
-    let both = two-words ws s.args.at at.j o.result t.result (search rules) o.ensures t.ensures in
-    sym at.invariant.1 ∙ apart-two ws s.args.at at.j o.result t.result (search rules) (omega arith) both.0 both.1 c.has_part_of_two.ensures
+    let w = spans-words c.requires.0 in
+    let both = two-words ws c.args.at at.j o.result t.result (search rules) o.ensures t.ensures in
+    sym at.invariant.1 ∙ apart-two ws c.args.at at.j o.result t.result (search rules) (omega arith) both.0 both.1 c.has_part_of_two.ensures
 
 pub loop-j-init : goal.loop-j-init
 loop-j-init c = let s = c.args in (passed_none (words s.a.now) s.at s.c s.all.bits (spans-words c.requires.0), refl)
@@ -55,39 +54,35 @@ get_word-requires-in-loop-j c =
 pub returns-then-next-t : goal.returns-then-next-t
 returns-then-next-t c =
     let at = c.loop-j in
-    let s = c in
-    let a = s.args in
+    let a = c.args in
     let t = c.get_word in
     opens-fall a.all.bits a.d.bits (at.j - 1) (take a.c (drop a.at (words a.a.now)))
-    (passed-falls (words a.a.now) a.at a.c a.all.bits (spans-words s.requires.0) at.j at.later.bits at.next t.result at.invariant.0 (search rules) t.ensures c.if-next-t.true)
+    (passed-falls (words a.a.now) a.at a.c a.all.bits (spans-words c.requires.0) at.j at.later.bits at.next t.result at.invariant.0 (search rules) t.ensures c.if-next-t.true)
 
 pub returns-then-t-s : goal.returns-then-t-s
 returns-then-t-s c =
     let at = c.loop-j in
-    let s = c in
-    let a = s.args in
+    let a = c.args in
     let t = c.get_word in
     let o = c.get_word-in-loop-j in
     opens-fall a.all.bits a.d.bits (at.j - 1 - 1) (take a.c (drop a.at (words a.a.now)))
-    (second-falls (words a.a.now) a.at a.c a.all.bits (spans-words s.requires.0) at.j at.later.bits at.next t.result o.result at.invariant.0 (search rules) t.ensures o.ensures
+    (second-falls (words a.a.now) a.at a.c a.all.bits (spans-words c.requires.0) at.j at.later.bits at.next t.result o.result at.invariant.0 (search rules) t.ensures o.ensures
     (search rules) c.if-t-s.true)
 
 pub has_part_of_two-requires : goal.has_part_of_two-requires
 has_part_of_two-requires c =
     let at = c.loop-j in
-    let s = c in
-    let p = s.requires.0 in
+    let p = c.requires.0 in
     let q = at.invariant.0.0 in
     let o = c.get_word-in-loop-j in
     let t = c.get_word in
-    let both = two-words (words s.args.a.now) s.args.at at.j o.result t.result (search rules) o.ensures t.ensures in
+    let both = two-words (words c.args.a.now) c.args.at at.j o.result t.result (search rules) o.ensures t.ensures in
     (spans-again p refl (let h = p.enough in omega arith), both.0)
 
 pub returns-then-has_part_of_two : goal.returns-then-has_part_of_two
 returns-then-has_part_of_two c =
     let at = c.loop-j in
-    let s = c in
-    let a = s.args in
+    let a = c.args in
     let ws = words a.a.now in
     let before = stand_apart (take (at.j - 2) (drop a.at ws)) in
     opens-touch a.all.bits a.d.bits (take a.c (drop a.at ws))
@@ -96,13 +91,12 @@ returns-then-has_part_of_two c =
 pub loop-j-preserved : goal.loop-j-preserved
 loop-j-preserved c =
     let at = c.loop-j in
-    let s = c in
-    let a = s.args in
+    let a = c.args in
     let ws = words a.a.now in
     let t = c.get_word in
     let o = c.get_word-in-loop-j in
     let before = stand_apart (take (at.j - 2) (drop a.at ws)) in (
-      passed-two ws a.at a.c a.all.bits (spans-words s.requires.0) at.j at.later.bits at.next t.result o.result at.invariant.0 (search rules) t.ensures o.ensures
+      passed-two ws a.at a.c a.all.bits (spans-words c.requires.0) at.j at.later.bits at.next t.result o.result at.invariant.0 (search rules) t.ensures o.ensures
           (search rules) (c.joined-later.ensures ∙ ap (λ (x : ℕ). joined x at.later.bits) c.joined.ensures) (search rules),
       sym (held (goal.at.loop-j-preserved c).After-has_part_of_two ∙ ap (λ (x : Bool). before && not x) c.if-has_part_of_two.false ∙ and-true before),
     )
@@ -116,16 +110,15 @@ get_word-requires-2 c =
 pub returns : goal.returns
 returns c =
     let at = c.loop-j in
-    let s = c in
-    let a = s.args in
+    let a = c.args in
     let ws = words a.a.now in
     let o = c.get_word-2 in
-    let some : 0 < a.c = s.requires.1 in
+    let some : 0 < a.c = c.requires.1 in
     let left : at.j ≤ 1 = omega arith in
     ap (λ (x : Bool). (leb o.result at.next && not x) && not (eqb o.result 0)) (c.shares.ensures ∙ ap (λ (x : ℕ). shares x a.d.bits) c.joined-2.ensures)
     ∙ passed-all a.all.bits a.d.bits (take a.c (drop a.at ws)) o.result at.j at.later.bits at.next
-    (omega (arith, length_run ws a.at a.c (spans-words s.requires.0)))
-    (o.ensures ∙ ap (λ (i : ℕ). get_or ws i 0) (sym (add-zero a.at)) ∙ sym (run-word ws a.at a.c 0 some (spans-words s.requires.0)))
+    (omega (arith, length_run ws a.at a.c (spans-words c.requires.0)))
+    (o.ensures ∙ ap (λ (i : ℕ). get_or ws i 0) (sym (add-zero a.at)) ∙ sym (run-word ws a.at a.c 0 some (spans-words c.requires.0)))
     (sym at.invariant.1 ∙ apart-fewer at.j 1 (drop a.at ws) left (apart-first (drop a.at ws)))
     left at.invariant.0.1
 

@@ -26,35 +26,32 @@ get_word-requires c =
 pub returns-then-next-o : goal.returns-then-next-o
 returns-then-next-o c =
     let at = c.loop-j in
-    let s = c in
-    let a = s.args in
+    let a = c.args in
     let o = c.get_word in
     sure-falls a.all.bits a.d.bits (at.j - 1) (take a.c (drop a.at (words a.a.now)))
-    (passed-falls (words a.a.now) a.at a.c a.all.bits (spans-words s.requires) at.j at.later.bits at.next o.result at.invariant.0 (search rules) o.ensures c.if-next-o.true)
+    (passed-falls (words a.a.now) a.at a.c a.all.bits (spans-words c.requires) at.j at.later.bits at.next o.result at.invariant.0 (search rules) o.ensures c.if-next-o.true)
 
 pub returns-then-both-later : goal.returns-then-both-later
 returns-then-both-later c =
     let at = c.loop-j in
-    let s = c in
-    let a = s.args in
+    let a = c.args in
     let l = take a.c (drop a.at (words a.a.now)) in
     let o = c.get_word in
     let both = c.joined-both in
     sure-ends a.all.bits a.d.bits (at.j - 1) l
-    (ap each_outside (run-before (words a.a.now) a.at a.c at.j o.result (search rules) at.invariant.0.0 (spans-words s.requires) o.ensures)
+    (ap each_outside (run-before (words a.a.now) a.at a.c at.j o.result (search rules) at.invariant.0.0 (spans-words c.requires) o.ensures)
     ∙ outside-ends o.result (drop at.j l) at.later.bits both.result.bits at.invariant.0.1.union both.ensures c.if-both-later.true)
 
 pub loop-j-preserved : goal.loop-j-preserved
 loop-j-preserved c =
     let at = c.loop-j in
-    let s = c in
-    let a = s.args in
+    let a = c.args in
     let l = take a.c (drop a.at (words a.a.now)) in
     let o = c.get_word in
     let both = c.joined-both in (
-      passed-one (words a.a.now) a.at a.c a.all.bits (spans-words s.requires) at.j at.later.bits at.next o.result at.invariant.0 (search rules) o.ensures
+      passed-one (words a.a.now) a.at a.c a.all.bits (spans-words c.requires) at.j at.later.bits at.next o.result at.invariant.0 (search rules) o.ensures
           both.ensures (search rules),
-      ap each_outside (run-before (words a.a.now) a.at a.c at.j o.result (search rules) at.invariant.0.0 (spans-words s.requires) o.ensures)
+      ap each_outside (run-before (words a.a.now) a.at a.c at.j o.result (search rules) at.invariant.0.0 (spans-words c.requires) o.ensures)
           ∙ outside-more o.result (drop at.j l) at.later.bits both.result.bits at.invariant.0.1.union both.ensures c.if-both-later.false
           ∙ at.invariant.1,
     )
@@ -62,8 +59,7 @@ loop-j-preserved c =
 pub returns : goal.returns
 returns c =
     let at = c.loop-j in
-    let s = c in
-    let a = s.args in
+    let a = c.args in
     let l = take a.c (drop a.at (words a.a.now)) in
     let end : at.j ≡ 0 = omega arith in
     ap not (c.shares.ensures ∙ ap (λ (x : ℕ). shares x a.d.bits) (rw end at at.invariant.0.1.union))

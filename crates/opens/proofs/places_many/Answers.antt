@@ -28,4 +28,4 @@ pub returns-in-15 : goal.returns-in-15
 returns-in-15 c = let a = c.args in many-arm _ _ a.at (words a.a.now) 15 (omega arith) c.are_zero-in-15.ensures c.opens_good-in-15.ensures c.in-15.is (omega arith) (omega arith)
 
 pub returns-in_default : goal.returns-in_default
-returns-in_default c = let s = c in let r = c.in_default.in_default-own.rest in not-many _ _ s.args.at (words s.args.a.now) (fewer s.requires.1 r.0.0.0.0.1 r.0.0.0.1 r.0.0.1 r.0.1 r.1)
+returns-in_default c = let r = c.in_default.in_default-own.rest in not-many _ _ c.args.at (words c.args.a.now) (fewer c.requires.1 r.0.0.0.0.1 r.0.0.0.1 r.0.0.1 r.0.1 r.1)

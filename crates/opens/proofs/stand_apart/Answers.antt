@@ -19,14 +19,13 @@ apart_next : (c : After-has_part) (t : Bool) → let s = c.args in let i = c.loo
     c.has_part.result ≡ t → stand_apart (take (i + 1) (drop s.at (words s.a.now))) ≡ not t
 apart_next c t e =
     let at = c.loop-i in
-    let s = c in
-    let ws = words s.args.a.now in
+    let ws = words c.args.a.now in
     let o = c.get_word in
-    let h = s.requires.enough in
-    let before = take at.i (drop s.args.at ws) in
-    let b : s.args.at + at.i < length ws = omega (arith, length-words s.args.a.now) in
-    ap stand_apart (run_take ws s.args.at at.i b)
-    ∙ apart-one before (get_or ws (s.args.at + at.i) 0)
+    let h = c.requires.enough in
+    let before = take at.i (drop c.args.at ws) in
+    let b : c.args.at + at.i < length ws = omega (arith, length-words c.args.a.now) in
+    ap stand_apart (run_take ws c.args.at at.i b)
+    ∙ apart-one before (get_or ws (c.args.at + at.i) 0)
     ∙ ap₂ (λ (p q : Bool). p && not q) at.invariant (ap (λ (x : ℕ). has_part x before) (sym o.ensures) ∙ sym c.has_part.ensures ∙ e)
 
 pub loop-i-init : goal.loop-i-init
@@ -45,8 +44,7 @@ has_part-requires c =
 pub returns-then-has_part : goal.returns-then-has_part
 returns-then-has_part c =
     let at = c.loop-i in
-    let s = c in
-    apart-broken (at.i + 1) s.args.c (drop s.args.at (words s.args.a.now)) (search rules) (apart_next (goal.at.returns-then-has_part c).After-has_part true c.if-has_part.true)
+    apart-broken (at.i + 1) c.args.c (drop c.args.at (words c.args.a.now)) (search rules) (apart_next (goal.at.returns-then-has_part c).After-has_part true c.if-has_part.true)
 
 pub loop-i-preserved : goal.loop-i-preserved
 loop-i-preserved c = apart_next (goal.at.loop-i-preserved c).After-has_part false c.if-has_part.false
@@ -54,5 +52,4 @@ loop-i-preserved c = apart_next (goal.at.loop-i-preserved c).After-has_part fals
 pub returns : goal.returns
 returns c =
     let at = c.loop-i in
-    let s = c in
-    sym (apart-fewer s.args.c at.i (drop s.args.at (words s.args.a.now)) (search rules) at.invariant)
+    sym (apart-fewer c.args.c at.i (drop c.args.at (words c.args.a.now)) (search rules) at.invariant)

@@ -16,6 +16,5 @@ returns-in_default c =
 pub returns : goal.returns
 unfolding by_letter
 returns c =
-    let d = c in
-    let line = d.args.line.now in
-    c.told_of.ensures ∙ of-permission-set Unreadable line (λ p s. in_state (told p (Allow s))) 1 (sym d.in-Read.is ∙ d.permission_set.ensures)
+    let line = c.args.line.now in
+    c.told_of.ensures ∙ of-permission-set Unreadable line (λ p s. in_state (told p (Allow s))) 1 (sym c.in-Read.is ∙ c.permission_set.ensures)

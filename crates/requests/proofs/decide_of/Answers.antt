@@ -18,16 +18,14 @@ returns-in_default c =
 pub returns-then-next-line : goal.returns-then-next-line
 unfolding by_letter
 returns-then-next-line c =
-    let d = c in
-    let line = d.args.line.now in
-    ended-later Unreadable (Decide _ _) line d.in-Read.next c.if-next-line.true
-    ∙ of-permission-set Unreadable line (λ p s. ended Unreadable (Decide p s)) 1 (sym d.in-Read.is ∙ d.permission_set.ensures)
+    let line = c.args.line.now in
+    ended-later Unreadable (Decide _ _) line c.in-Read.next c.if-next-line.true
+    ∙ of-permission-set Unreadable line (λ p s. ended Unreadable (Decide p s)) 1 (sym c.in-Read.is ∙ c.permission_set.ensures)
 
 -- the line ends behind the set
 pub returns : goal.returns
 unfolding by_letter
 returns c =
-    let d = c in
-    let line = d.args.line.now in
-    ended-there Unreadable _ line d.in-Read.next c.if-next-line.false
-    ∙ of-permission-set Unreadable line (λ p s. ended Unreadable (Decide p s)) 1 (sym d.in-Read.is ∙ d.permission_set.ensures)
+    let line = c.args.line.now in
+    ended-there Unreadable _ line c.in-Read.next c.if-next-line.false
+    ∙ of-permission-set Unreadable line (λ p s. ended Unreadable (Decide p s)) 1 (sym c.in-Read.is ∙ c.permission_set.ensures)

@@ -24,16 +24,14 @@ returns-in_default c =
 pub returns-then-line-next : goal.returns-then-line-next
 unfolding last_number
 returns-then-line-next c =
-    let d = c in
-    let a = d.args in
-    ended-there last.Bad _ a.line.now d.in-Read.next c.if-line-next.true
-    ∙ of_number_lem last.Bad a.line.now at-end a.limit a.at (sym d.in-Read.is ∙ d.number_field.ensures)
+    let a = c.args in
+    ended-there last.Bad _ a.line.now c.in-Read.next c.if-line-next.true
+    ∙ of_number_lem last.Bad a.line.now at-end a.limit a.at (sym c.in-Read.is ∙ c.number_field.ensures)
 
 -- bytes come behind the number
 pub returns-else-line-next : goal.returns-else-line-next
 unfolding last_number
 returns-else-line-next c =
-    let d = c in
-    let a = d.args in
-    ended-later last.Bad (last.Value _) a.line.now d.in-Read.next c.if-line-next.false
-    ∙ of_number_lem last.Bad a.line.now at-end a.limit a.at (sym d.in-Read.is ∙ d.number_field.ensures)
+    let a = c.args in
+    ended-later last.Bad (last.Value _) a.line.now c.in-Read.next c.if-line-next.false
+    ∙ of_number_lem last.Bad a.line.now at-end a.limit a.at (sym c.in-Read.is ∙ c.number_field.ensures)

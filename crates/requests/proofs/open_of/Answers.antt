@@ -34,13 +34,11 @@ returns-in_default c =
 
 pub returns-in_default-last_number : goal.returns-in_default-last_number
 returns-in_default-last_number c =
-    let d = c in
-    of-last Unreadable (Open (count_of (goal.at.returns-in_default-last_number d).In-Read)) _ _ (sym c.in_default-last_number.is ∙ c.last_number.ensures) ∙ behind (goal.at.returns-in_default-last_number d).In-Read
+    of-last Unreadable (Open (count_of (goal.at.returns-in_default-last_number c).In-Read)) _ _ (sym c.in_default-last_number.is ∙ c.last_number.ensures) ∙ behind (goal.at.returns-in_default-last_number c).In-Read
 
 pub returns : goal.returns
 returns c =
-    let d = c in
-    of-last Unreadable (Open (count_of (goal.at.returns d).In-Read)) _ _ (sym c.in-Value.is ∙ c.last_number.ensures) ∙ behind (goal.at.returns d).In-Read
+    of-last Unreadable (Open (count_of (goal.at.returns c).In-Read)) _ _ (sym c.in-Value.is ∙ c.last_number.ensures) ∙ behind (goal.at.returns c).In-Read
 
 pub overflow_cast-result : goal.overflow_cast-result
 overflow_cast-result c = omega (arith, last-small _ _ _ (sym c.in-Value.is ∙ c.last_number.ensures))

@@ -40,15 +40,12 @@ returns-in_default c =
 
 pub returns-in_default-set_field : goal.returns-in_default-set_field
 returns-in_default-set_field c =
-    let d = c in
-    of-set-place set.Bad (line_of (goal.at.returns-in_default-set_field d).In-Read) (set.Read (permission-of (goal.at.returns-in_default-set_field d).In-Read)) (drop (next_of (goal.at.returns-in_default-set_field d).In-Read) (line_of (goal.at.returns-in_default-set_field d).In-Read)) (sym c.in_default-set_field.is ∙ c.set_field.ensures) ∙ behind (goal.at.returns-in_default-set_field d).In-Read
+    of-set-place set.Bad (line_of (goal.at.returns-in_default-set_field c).In-Read) (set.Read (permission-of (goal.at.returns-in_default-set_field c).In-Read)) (drop (next_of (goal.at.returns-in_default-set_field c).In-Read) (line_of (goal.at.returns-in_default-set_field c).In-Read)) (sym c.in_default-set_field.is ∙ c.set_field.ensures) ∙ behind (goal.at.returns-in_default-set_field c).In-Read
 
 pub returns : goal.returns
 returns c =
-    let d = c in
-    of-set-place set.Bad (line_of (goal.at.returns d).In-Read) (set.Read (permission-of (goal.at.returns d).In-Read)) (drop (next_of (goal.at.returns d).In-Read) (line_of (goal.at.returns d).In-Read)) (sym c.in-Read-set_field.is ∙ c.set_field.ensures) ∙ behind (goal.at.returns d).In-Read
+    of-set-place set.Bad (line_of (goal.at.returns c).In-Read) (set.Read (permission-of (goal.at.returns c).In-Read)) (drop (next_of (goal.at.returns c).In-Read) (line_of (goal.at.returns c).In-Read)) (sym c.in-Read-set_field.is ∙ c.set_field.ensures) ∙ behind (goal.at.returns c).In-Read
 
 pub overflow_cast-result : goal.overflow_cast-result
 overflow_cast-result c =
-    let d = c in
-    omega (arith, (number-spaced (line_of (goal.at.overflow_cast-result d).In-Read) 1 last_permission (permission-of (goal.at.overflow_cast-result d).In-Read) (next_of (goal.at.overflow_cast-result d).In-Read) (sym d.in-Read.is ∙ d.number_field.ensures)).1)
+    omega (arith, (number-spaced (line_of (goal.at.overflow_cast-result c).In-Read) 1 last_permission (permission-of (goal.at.overflow_cast-result c).In-Read) (next_of (goal.at.overflow_cast-result c).In-Read) (sym c.in-Read.is ∙ c.number_field.ensures)).1)

@@ -12,9 +12,8 @@ returns-in_default c = let a = c.args in of-last Unreadable (told a.permission a
 
 pub returns : goal.returns
 returns c =
-    let d = c in
-    let a = d.args in
-    of-last Unreadable (told a.permission a.happening) _ _ (sym d.in-Value.is ∙ d.last_number.ensures)
+    let a = c.args in
+    of-last Unreadable (told a.permission a.happening) _ _ (sym c.in-Value.is ∙ c.last_number.ensures)
 
 pub overflow_cast-result : goal.overflow_cast-result
 overflow_cast-result c = omega (arith, last-small _ _ _ (sym c.in-Value.is ∙ c.last_number.ensures))

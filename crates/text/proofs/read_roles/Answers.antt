@@ -42,21 +42,19 @@ returns-in_default c =
     ap (set_field line) (roles-none l.invariant (number-bad line (read_number last_role (drop l.i line)) (cc)))
 
 pub returns-then-value-low : goal.returns-then-value-low
-returns-then-value-low c = let d = c in ap (set_field (line_of (goal.at.returns-then-value-low d).In-Read)) (roles-fall d.loop-value.invariant (there (goal.at.returns-then-value-low d).In-Read) c.if-value-low.true)
+returns-then-value-low c = ap (set_field (line_of (goal.at.returns-then-value-low c).In-Read)) (roles-fall c.loop-value.invariant (there (goal.at.returns-then-value-low c).In-Read) c.if-value-low.true)
 
 pub returns-then-not-byte_at : goal.returns-then-not-byte_at
 returns-then-not-byte_at c =
-    let d = c in
-    set_here (line_of (goal.at.returns-then-not-byte_at d).In-Read) c.joined-set.result (next_of (goal.at.returns-then-not-byte_at d).In-Read) (there (goal.at.returns-then-not-byte_at d).In-Read).inside
-    ∙ ap (set_field (line_of (goal.at.returns-then-not-byte_at d).In-Read))
-    (ap (λ (x : ℕ). found x (drop (next_of (goal.at.returns-then-not-byte_at d).In-Read) (line_of (goal.at.returns-then-not-byte_at d).In-Read))) (joined-role (goal.at.returns-then-not-byte_at c).After-joined-set)
-    ∙ roles-end d.loop-value.invariant (there (goal.at.returns-then-not-byte_at d).In-Read) c.if-value-low.false (sym c.byte_at.ensures ∙ not-true _ c.if-not-byte_at.true-raw))
+    set_here (line_of (goal.at.returns-then-not-byte_at c).In-Read) c.joined-set.result (next_of (goal.at.returns-then-not-byte_at c).In-Read) (there (goal.at.returns-then-not-byte_at c).In-Read).inside
+    ∙ ap (set_field (line_of (goal.at.returns-then-not-byte_at c).In-Read))
+    (ap (λ (x : ℕ). found x (drop (next_of (goal.at.returns-then-not-byte_at c).In-Read) (line_of (goal.at.returns-then-not-byte_at c).In-Read))) (joined-role (goal.at.returns-then-not-byte_at c).After-joined-set)
+    ∙ roles-end c.loop-value.invariant (there (goal.at.returns-then-not-byte_at c).In-Read) c.if-value-low.false (sym c.byte_at.ensures ∙ c.if-not-byte_at.true))
 
 pub loop-value-preserved : goal.loop-value-preserved
 loop-value-preserved c =
-    let d = c in
     rw (joined-role (goal.at.loop-value-preserved c).After-joined-set)
-    (roles-comma d.loop-value.invariant (there (goal.at.loop-value-preserved d).In-Read) c.if-value-low.false (sym c.byte_at.ensures ∙ not-false _ c.if-not-byte_at.false-raw))
+    (roles-comma c.loop-value.invariant (there (goal.at.loop-value-preserved c).In-Read) c.if-value-low.false (sym c.byte_at.ensures ∙ c.if-not-byte_at.false))
 
 pub loop-value-init : goal.loop-value-init
 loop-value-init c = roles-start c.args.line.now c.args.at

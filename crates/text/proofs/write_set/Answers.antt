@@ -41,13 +41,12 @@ returns-then-s-eq0 c = let a = c.args in rw (empty-text a.s.bits c.if-s-eq0.true
 
 pub loop-r-init : goal.loop-r-init
 loop-r-init c =
-    let s = c in
-    let a = s.args in
+    let a = c.args in
     let b : ℕ = a.s.bits in
     let fits : b < 2 ^ most_roles = search rules in
     rw c.outside-r.ensures (
       outside-le b 0,
-      s.requires,
+      c.requires,
       subst (Left a.out.now a.at (set_text b) a.out.now a.at) (rest-start b c.if-s-eq0.false ∙ rest-next 0 b 0 fits (omega arith) none_below false)
           (left-start a.out.now a.at (set_text b)),
       next-in b 0 fits,

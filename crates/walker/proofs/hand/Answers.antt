@@ -47,18 +47,16 @@ row_at-requires c = there (goal.at.row_at-requires c).Then-next-rows_used
 
 pub returns-then-next-rows_used : goal.returns-then-next-rows_used
 returns-then-next-rows_used c =
-    let s = c in
     let k = there (goal.at.returns-then-next-rows_used c).Then-next-rows_used in
-    let l = s.args.a.now in
-    let i = s.args.next in
+    let l = c.args.a.now in
+    let i = c.args.next in
     handed-row i _ _ (nth i (rows_in l)) c.permission_at.ensures c.row_at.ensures ∙ sym (walk-row l i k.0.good k.1)
 
 pub returns : goal.returns
 returns c =
-    let s = c in
-    let l = s.args.a.now in
-    let i = s.args.next in
+    let l = c.args.a.now in
+    let i = c.args.next in
     handed-none i _ c.blank.ensures
     ∙ sym (elim c.if-next-lt-MOST_ROWS.branch [
-      then-next-lt-MOST_ROWS+else-next-rows_used w ↦ walk_end l i (s.requires w.if-next-lt-MOST_ROWS.true).good (rw w.rows_used.ensures at w.if-next-rows_used.false)
+      then-next-lt-MOST_ROWS+else-next-rows_used w ↦ walk_end l i (c.requires w.if-next-lt-MOST_ROWS.true).good (rw w.rows_used.ensures at w.if-next-rows_used.false)
     | else-next-lt-MOST_ROWS w ↦ walk-past l i w.if-next-lt-MOST_ROWS.false ])

@@ -8,5 +8,4 @@ use Rattle.area.proofs.check.are_unused.Goals as goal
 
 pub returns : goal.returns
 returns c =
-    let s = c in
-    ap₂ ◌&&◌ c.are_zero.ensures c.are_zero-2.ensures ∙ zero-rows (words s.args.a.now) s.args.i s.args.n s.requires.1
+    ap₂ ◌&&◌ c.are_zero.ensures c.are_zero-2.ensures ∙ zero-rows (words c.args.a.now) c.args.i c.args.n c.requires.1

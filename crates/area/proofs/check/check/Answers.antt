@@ -25,56 +25,45 @@ returns-then-a-ne-AREA_BYTES c = rw (ne_eqb (length c.args.a.now) area_bytes c.i
 
 pub returns-then-n-lt1 : goal.returns-then-n-lt1
 returns-then-n-lt1 c =
-    let g = c in
-    let l = g.args.a.now in
-    no-roles (words l) (subst (λ (n : ℕ). n < 1) g.get_word-n.ensures c.if-n-lt1.true) ∙ sym (whole l g.if-a-ne-AREA_BYTES.false)
+    let l = c.args.a.now in
+    no-roles (words l) (subst (λ (n : ℕ). n < 1) c.get_word-n.ensures c.if-n-lt1.true) ∙ sym (whole l c.if-a-ne-AREA_BYTES.false)
 
 pub returns-then-n-gt-MOST_ROLES : goal.returns-then-n-gt-MOST_ROLES
 returns-then-n-gt-MOST_ROLES c =
-    let g = c in
-    let l = g.args.a.now in
-    many-roles (words l) (subst (λ (n : ℕ). 1 ≤ n) g.get_word-n.ensures c.if-n-lt1.false)
-    (subst (λ (n : ℕ). most_roles < n) g.get_word-n.ensures c.if-n-gt-MOST_ROLES.true) ∙ sym (whole l g.if-a-ne-AREA_BYTES.false)
+    let l = c.args.a.now in
+    many-roles (words l) (subst (λ (n : ℕ). 1 ≤ n) c.get_word-n.ensures c.if-n-lt1.false)
+    (subst (λ (n : ℕ). most_roles < n) c.get_word-n.ensures c.if-n-gt-MOST_ROLES.true) ∙ sym (whole l c.if-a-ne-AREA_BYTES.false)
 
 pub returns-then-used : goal.returns-then-used
 returns-then-used c =
-    let u = c in
-    let g = u in
-    let l = g.args.a.now in
-    many-rows (words l) (subst (λ (n : ℕ). 1 ≤ n) g.get_word-n.ensures c.if-n-lt1.false)
-    (subst (λ (n : ℕ). n ≤ most_roles) g.get_word-n.ensures c.if-n-gt-MOST_ROLES.false)
-    (subst (λ (n : ℕ). most_rows < n) u.get_word-used.ensures c.if-used.true) ∙ sym (whole l g.if-a-ne-AREA_BYTES.false)
+    let l = c.args.a.now in
+    many-rows (words l) (subst (λ (n : ℕ). 1 ≤ n) c.get_word-n.ensures c.if-n-lt1.false)
+    (subst (λ (n : ℕ). n ≤ most_roles) c.get_word-n.ensures c.if-n-gt-MOST_ROLES.false)
+    (subst (λ (n : ℕ). most_rows < n) c.get_word-used.ensures c.if-used.true) ∙ sym (whole l c.if-a-ne-AREA_BYTES.false)
 
 pub returns-then-policy-gt-LAST_POLICY_STATE : goal.returns-then-policy-gt-LAST_POLICY_STATE
 returns-then-policy-gt-LAST_POLICY_STATE c =
-    let v = c in
-    let u = v in
-    let g = u in
-    let l = g.args.a.now in
-    wide-policy (words l) (subst (λ (n : ℕ). 1 ≤ n) g.get_word-n.ensures c.if-n-lt1.false)
-    (subst (λ (n : ℕ). n ≤ most_roles) g.get_word-n.ensures c.if-n-gt-MOST_ROLES.false)
-    (subst (λ (n : ℕ). n ≤ most_rows) u.get_word-used.ensures c.if-used.false)
-    (subst (λ (n : ℕ). last_policy_state < n) v.get_word-policy.ensures c.if-policy-gt-LAST_POLICY_STATE.true) ∙ sym (whole l g.if-a-ne-AREA_BYTES.false)
+    let l = c.args.a.now in
+    wide-policy (words l) (subst (λ (n : ℕ). 1 ≤ n) c.get_word-n.ensures c.if-n-lt1.false)
+    (subst (λ (n : ℕ). n ≤ most_roles) c.get_word-n.ensures c.if-n-gt-MOST_ROLES.false)
+    (subst (λ (n : ℕ). n ≤ most_rows) c.get_word-used.ensures c.if-used.false)
+    (subst (λ (n : ℕ). last_policy_state < n) c.get_word-policy.ensures c.if-policy-gt-LAST_POLICY_STATE.true) ∙ sym (whole l c.if-a-ne-AREA_BYTES.false)
 
 pub rows_good-requires : goal.rows_good-requires
 rows_good-requires c =
-    let g = c in (
-      g.if-a-ne-AREA_BYTES.false,
+    (
+      c.if-a-ne-AREA_BYTES.false,
       c.if-used.false,
-      c.all_below.ensures ∙ below64-all_below g.get_word-n.result c.if-n-gt-MOST_ROLES.false ∙ ap all_below g.get_word-n.ensures,
+      c.all_below.ensures ∙ below64-all_below c.get_word-n.result c.if-n-gt-MOST_ROLES.false ∙ ap all_below c.get_word-n.ensures,
     )
 
 pub returns : goal.returns
 returns c =
-    let e = c in
-    let v = e in
-    let u = v in
-    let g = u in
-    let l = g.args.a.now in
+    let l = c.args.a.now in
     let ws = words l in
-    let used : u.get_word-used.result ≡ rows_used ws = u.get_word-used.ensures in
-    area-made ws (subst (λ (n : ℕ). 1 ≤ n) g.get_word-n.ensures e.if-n-lt1.false) (subst (λ (n : ℕ). n ≤ most_roles) g.get_word-n.ensures e.if-n-gt-MOST_ROLES.false)
-    (subst (λ (n : ℕ). n ≤ most_rows) used e.if-used.false) (subst (λ (n : ℕ). n ≤ last_policy_state) v.get_word-policy.ensures e.if-policy-gt-LAST_POLICY_STATE.false) (area-long l g.if-a-ne-AREA_BYTES.false)
+    let used : c.get_word-used.result ≡ rows_used ws = c.get_word-used.ensures in
+    area-made ws (subst (λ (n : ℕ). 1 ≤ n) c.get_word-n.ensures c.if-n-lt1.false) (subst (λ (n : ℕ). n ≤ most_roles) c.get_word-n.ensures c.if-n-gt-MOST_ROLES.false)
+    (subst (λ (n : ℕ). n ≤ most_rows) used c.if-used.false) (subst (λ (n : ℕ). n ≤ last_policy_state) c.get_word-policy.ensures c.if-policy-gt-LAST_POLICY_STATE.false) (area-long l c.if-a-ne-AREA_BYTES.false)
     (c.rows_good.ensures ∙ ap (λ (n : ℕ). each_below n (good_row_at ws)) used)
     (c.rest_unused.ensures ∙ ap (λ (n : ℕ). zero_rows ws n (most_rows - n)) used)
-    ∙ sym (whole l g.if-a-ne-AREA_BYTES.false)
+    ∙ sym (whole l c.if-a-ne-AREA_BYTES.false)

@@ -34,32 +34,27 @@ module _ (ws : List ℕ) (used i : ℕ) (p : Passed ws used i) where
 pub returns-then-not-are_unused : goal.returns-then-not-are_unused
 returns-then-not-are_unused c =
     let at = c.loop-i in
-    let s = c in
-    broken (words s.args.a.now) s.args.used at.i at.invariant stride (search rules) (sym c.are_unused.ensures ∙ not-true _ c.if-not-are_unused.true-raw)
+    broken (words c.args.a.now) c.args.used at.i at.invariant stride (search rules) (sym c.are_unused.ensures ∙ c.if-not-are_unused.true)
 
 pub loop-i-preserved : goal.loop-i-preserved
 loop-i-preserved c =
     let at = c.loop-i in
-    let s = c in
-    more (words s.args.a.now) s.args.used at.i at.invariant stride (search rules) (sym c.are_unused.ensures ∙ not-false _ c.if-not-are_unused.false-raw)
+    more (words c.args.a.now) c.args.used at.i at.invariant stride (search rules) (sym c.are_unused.ensures ∙ c.if-not-are_unused.false)
 
 pub returns-then-not-are_unused-2 : goal.returns-then-not-are_unused-2
 returns-then-not-are_unused-2 c =
     let at = c.loop-i-2 in
-    let s = c in
-    broken (words s.args.a.now) s.args.used at.i at.invariant 1 (search rules) (sym c.are_unused-in-loop-i-2.ensures ∙ not-true _ c.if-not-are_unused-2.true-raw)
+    broken (words c.args.a.now) c.args.used at.i at.invariant 1 (search rules) (sym c.are_unused-in-loop-i-2.ensures ∙ c.if-not-are_unused-2.true)
 
 pub loop-i-2-preserved : goal.loop-i-2-preserved
 loop-i-2-preserved c =
     let at = c.loop-i-2 in
-    let s = c in
-    more (words s.args.a.now) s.args.used at.i at.invariant 1 (search rules) (sym c.are_unused-in-loop-i-2.ensures ∙ not-false _ c.if-not-are_unused-2.false-raw)
+    more (words c.args.a.now) c.args.used at.i at.invariant 1 (search rules) (sym c.are_unused-in-loop-i-2.ensures ∙ c.if-not-are_unused-2.false)
 
 pub returns : goal.returns
 returns c =
     let at = c.loop-i-2 in
-    let s = c in
-    all-passed (words s.args.a.now) s.args.used at.i at.invariant (search rules)
+    all-passed (words c.args.a.now) c.args.used at.i at.invariant (search rules)
 
 pub loop-i-init : goal.loop-i-init
 loop-i-init c = (search rules, refl)

@@ -8,5 +8,4 @@ use Rattle.area.proofs.check.rows_good.Goals as goal
 
 pub returns-then-used-eq0 : goal.returns-then-used-eq0
 returns-then-used-eq0 c =
-    let s = c in
-    sym (ap (λ (n : ℕ). each_below n (good_row_at (words s.args.a.now))) c.if-used-eq0.true)
+    sym (ap (λ (n : ℕ). each_below n (good_row_at (words c.args.a.now))) c.if-used-eq0.true)

@@ -72,48 +72,38 @@ unfolding permission_before
 loop-i-init c = search rules
 
 pub returns-then-not-ok : goal.returns-then-not-ok
-returns-then-not-ok c = fails (goal.at.returns-then-not-ok c).After-struct_known-in-loop-i-1 (sym (made (goal.at.returns-then-not-ok c).After-struct_known-in-loop-i-1 false (not-true _ c.if-not-ok.true-raw)))
+returns-then-not-ok c = fails (goal.at.returns-then-not-ok c).After-struct_known-in-loop-i-1 (sym (made (goal.at.returns-then-not-ok c).After-struct_known-in-loop-i-1 false c.if-not-ok.true))
 
 pub places_few-requires : goal.places_few-requires
 places_few-requires c = let h = row (goal.at.places_few-requires c).After-struct_known-in-loop-i-1 in area-spans _ _ (start (goal.at.places_few-requires c).After-struct_known-in-loop-i-1).requires.0 (omega arith)
 
 pub returns-then-not-places_few : goal.returns-then-not-places_few
 returns-then-not-places_few c =
-    let e = c in
-    let g = e in
-    fails (goal.at.returns-then-not-places_few g).After-struct_known-in-loop-i-1 (sym (made (goal.at.returns-then-not-places_few g).After-struct_known-in-loop-i-1 true (not-false _ e.if-not-ok.false-raw)) ∙ half-fails (ltb few_opens (count (goal.at.returns-then-not-places_few g).After-struct_known-in-loop-i-1)) (good (goal.at.returns-then-not-places_few g).After-struct_known-in-loop-i-1) (sym (not-true _ c.if-not-places_few.true-raw) ∙ c.places_few.ensures))
+    fails (goal.at.returns-then-not-places_few c).After-struct_known-in-loop-i-1 (sym (made (goal.at.returns-then-not-places_few c).After-struct_known-in-loop-i-1 true c.if-not-ok.false) ∙ half-fails (ltb few_opens (count (goal.at.returns-then-not-places_few c).After-struct_known-in-loop-i-1)) (good (goal.at.returns-then-not-places_few c).After-struct_known-in-loop-i-1) (sym c.if-not-places_few.true ∙ c.places_few.ensures))
 
 pub places_many-requires : goal.places_many-requires
 places_many-requires c =
-    let e = c in
-    let g = e in
-    let h = row (goal.at.places_many-requires g).After-struct_known-in-loop-i-1 in
-    (area-spans _ _ (start (goal.at.places_many-requires g).After-struct_known-in-loop-i-1).requires.0 (omega arith), few-enough (goal.at.places_many-requires g).After-struct_known-in-loop-i-1 (not-false _ e.if-not-ok.false-raw))
+    let h = row (goal.at.places_many-requires c).After-struct_known-in-loop-i-1 in
+    (area-spans _ _ (start (goal.at.places_many-requires c).After-struct_known-in-loop-i-1).requires.0 (omega arith), few-enough (goal.at.places_many-requires c).After-struct_known-in-loop-i-1 c.if-not-ok.false)
 
 pub returns-then-not-places_many : goal.returns-then-not-places_many
 returns-then-not-places_many c =
-    let e = c in
-    let g = e in
-    fails (goal.at.returns-then-not-places_many g).After-struct_known-in-loop-i-1 (sym (made (goal.at.returns-then-not-places_many g).After-struct_known-in-loop-i-1 true (not-false _ e.if-not-ok.false-raw)) ∙ half-fails (leb (count (goal.at.returns-then-not-places_many g).After-struct_known-in-loop-i-1) few_opens) (good (goal.at.returns-then-not-places_many g).After-struct_known-in-loop-i-1) (sym (not-true _ c.if-not-places_many.true-raw) ∙ c.places_many.ensures))
+    fails (goal.at.returns-then-not-places_many c).After-struct_known-in-loop-i-1 (sym (made (goal.at.returns-then-not-places_many c).After-struct_known-in-loop-i-1 true c.if-not-ok.false) ∙ half-fails (leb (count (goal.at.returns-then-not-places_many c).After-struct_known-in-loop-i-1) few_opens) (good (goal.at.returns-then-not-places_many c).After-struct_known-in-loop-i-1) (sym c.if-not-places_many.true ∙ c.places_many.ensures))
 
 pub loop-i-preserved : goal.loop-i-preserved
 loop-i-preserved c =
-    let f = c in
-    let e = f in
-    let g = e in
-    let at = g.loop-i in
-    let passes = halves-pass (count (goal.at.loop-i-preserved g).After-struct_known-in-loop-i-1) (good (goal.at.loop-i-preserved g).After-struct_known-in-loop-i-1) (sym (not-false _ f.if-not-places_few.false-raw) ∙ f.places_few.ensures) (sym (not-false _ c.if-not-places_many.false-raw) ∙ c.places_many.ensures) in (
+    let at = c.loop-i in
+    let passes = halves-pass (count (goal.at.loop-i-preserved c).After-struct_known-in-loop-i-1) (good (goal.at.loop-i-preserved c).After-struct_known-in-loop-i-1) (sym c.if-not-places_few.false ∙ c.places_few.ensures) (sym c.if-not-places_many.false ∙ c.places_many.ensures) in (
       search rules,
-      each_more (good_but_wide (ws (goal.at.loop-i-preserved g).After-struct_known-in-loop-i-1)) (i (goal.at.loop-i-preserved g).After-struct_known-in-loop-i-1) at.invariant.1 (sym passes ∙ made (goal.at.loop-i-preserved g).After-struct_known-in-loop-i-1 true (not-false _ e.if-not-ok.false-raw)),
-      before_more (ws (goal.at.loop-i-preserved g).After-struct_known-in-loop-i-1) (i (goal.at.loop-i-preserved g).After-struct_known-in-loop-i-1) (g.get_word-p.ensures ∙ permission-word (ws (goal.at.loop-i-preserved g).After-struct_known-in-loop-i-1) (i (goal.at.loop-i-preserved g).After-struct_known-in-loop-i-1) (row (goal.at.loop-i-preserved g).After-struct_known-in-loop-i-1)),
+      each_more (good_but_wide (ws (goal.at.loop-i-preserved c).After-struct_known-in-loop-i-1)) (i (goal.at.loop-i-preserved c).After-struct_known-in-loop-i-1) at.invariant.1 (sym passes ∙ made (goal.at.loop-i-preserved c).After-struct_known-in-loop-i-1 true c.if-not-ok.false),
+      before_more (ws (goal.at.loop-i-preserved c).After-struct_known-in-loop-i-1) (i (goal.at.loop-i-preserved c).After-struct_known-in-loop-i-1) (c.get_word-p.ensures ∙ permission-word (ws (goal.at.loop-i-preserved c).After-struct_known-in-loop-i-1) (i (goal.at.loop-i-preserved c).After-struct_known-in-loop-i-1) (row (goal.at.loop-i-preserved c).After-struct_known-in-loop-i-1)),
     )
 
 pub returns : goal.returns
 returns c =
     let at = c.loop-i in
-    let s = c in
-    let e : at.i ≡ s.args.used = omega arith in
-    rw e at (rows_made (words s.args.a.now) at.i at.last at.invariant.2 at.invariant.1)
+    let e : at.i ≡ c.args.used = omega arith in
+    rw e at (rows_made (words c.args.a.now) at.i at.last at.invariant.2 at.invariant.1)
 
 pub get_word-p-requires : goal.get_word-p-requires
 get_word-p-requires c = area-spans _ _ c.requires.0 (search rules)
