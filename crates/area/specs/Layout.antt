@@ -27,7 +27,7 @@
 --     row_rules, area_rules                the rules for a row, the area, over the area's words
 --     good_row_at, good_area               all of them hold
 --     good_bytes                           the bytes are a good area
-use Rattle.std.specs.Prelude.{Bool, true, not, ◌&&◌, List, [], ◌∷◌, ℕ, zero, suc, ◌+◌, ◌*◌, eqb, ltb, leb, length, get_or, take, drop}
+use Rattle.std.specs.Prelude.{Bool, true, ◌&&◌, List, [], ◌∷◌, ℕ, zero, suc, ◌+◌, ◌*◌, eqb, ltb, leb, length, get_or, take, drop}
 use Rattle.words.specs.Words.{words, all_zero}
 use Rattle.roles.specs.Sets.{most_roles, all_below}
 use Rattle.meaning.specs.Events.{last_permission, last_policy_state}

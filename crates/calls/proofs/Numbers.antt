@@ -5,7 +5,6 @@ use Prim.Native.Nat.{ℕ}
 use lib.Dec.{eqb}
 use Rattle.meaning.specs.Rows as meaning
 use Rattle.calls.specs.declared.Answer.{Answer}
-use Rattle.calls.specs.declared.Decided.{Decided}
 use Rattle.calls.specs.declared.Answer.TheVariants.{Recorded, BadArea, BadRoleCount, NoPermission, UnknownRole, BadVerdict, Contradiction, Full, Forgotten, Unreadable, Deny, Allow, Undecided, Late, Ahead}
 use Rattle.calls.specs.Answers.{number_of, decided_of}
 use Rattle.calls.specs.Demands as demands

@@ -14,7 +14,7 @@ use Rattle.roles.proofs.Member.{in-empty, part_of-law}
 use Rattle.roles.proofs.Laws.{single-below, part_of-all_below}
 use Rattle.meaning.specs.declared.Happening.{Happening}
 use Rattle.meaning.specs.Events.{roles_in, known, is_reply, Reply, last_policy_state}
-use Rattle.meaning.specs.Rows.{Row, blank, Good, has_part, has_proper_part, losing, apart, reduce, denying, allowing, clearing, giving, withdrawing, contradicts, step, fits, Settled, forgotten, overflow, settle, Decided, bare, undecided, decide}
+use Rattle.meaning.specs.Rows.{Row, blank, Good, has_part, has_proper_part, losing, apart, reduce, denying, allowing, clearing, giving, withdrawing, contradicts, step, fits, Settled, overflow, settle, Decided, bare, undecided, decide}
 use Rattle.meaning.specs.Lists.{any, keep, put, in_order}
 use Rattle.meaning.proofs.Answers.{contradicts-reply, Case, refused, taken, no_room, dropped, case, settle-by}
 use Rattle.meaning.proofs.Theorems.{settle-good, settle-fits}

@@ -1,7 +1,7 @@
 -- The lowest role of a set, and the part test that names one: 64 exactly where a set is part of another. Assumes nothing.
 use mathlib.Core.Path.{◌≡◌, refl, sym, ◌∙◌, subst, subst⁻¹}
 use mathlib.Core.Bool.{true, false}
-use mathlib.Core.Logic.{◌↔◌, ◌≢◌, ⊎_elim, by_cases}
+use mathlib.Core.Logic.{◌≢◌, ⊎_elim, by_cases}
 use Prim.Native.Nat.{ℕ, zero, suc, ◌≤◌, ◌<◌, ◌/◌, ◌%◌}
 use native.Mathlib.Nat.{mod-lt}
 use native.Mathlib.Decide.{dec_lt}

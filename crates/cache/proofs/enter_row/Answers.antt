@@ -1,5 +1,4 @@
 -- `cache::enter_row` meets its contract. Assumes nothing.
-use borrow.Author.Rules.{rules}
 use mathlib.Core.Path.{sym, ◌∙◌}
 use Rattle.cache.proofs.enter_row.Goals as goal
 

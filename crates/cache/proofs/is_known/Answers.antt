@@ -1,5 +1,4 @@
 -- `cache::is_known` meets its contract. Assumes nothing.
-use borrow.Author.Rules.{rules}
 use mathlib.Core.Path.{sym, ap, ◌∙◌}
 use Rattle.meaning.specs.Events.{roles_in, known}
 use Rattle.meaning.specs.declared.Happening.{Happening}

@@ -1,5 +1,4 @@
 -- `cache::judge` meets its contract. Assumes nothing.
-use borrow.Author.Rules.{rules}
 use mathlib.Core.Path.{sym, ap, ◌∙◌}
 use Rattle.rows.specs.Stored.{decided_of}
 use Rattle.rows.specs.declared.Verdict.{Verdict}

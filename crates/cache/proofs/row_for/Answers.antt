@@ -1,5 +1,4 @@
 -- `cache::row_for` meets its contract. Assumes nothing.
-use borrow.Author.Rules.{rules}
 use mathlib.Core.Path.{sym, ap, ◌∙◌}
 use Rattle.meaning.specs.Rows.{Row}
 use Rattle.rows.specs.Stored.{stored_row}

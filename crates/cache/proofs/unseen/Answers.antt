@@ -1,5 +1,4 @@
 -- `cache::unseen` meets its contract. Assumes nothing.
-use borrow.Author.Rules.{rules}
 use Rattle.cache.proofs.unseen.Goals as goal
 
 pub returns : goal.returns

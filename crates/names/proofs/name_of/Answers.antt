@@ -1,5 +1,4 @@
 -- `names::name_of` meets its contract. Assumes nothing.
-use borrow.Author.Rules.{rules}
 use mathlib.Core.Path.{sym, ap, ◌∙◌}
 use lib.ListN.{length}
 use Rattle.names.proofs.TableLaws.{part_length, name-own, name-standard}

@@ -1,5 +1,4 @@
 -- `names::pair_good` meets its contract. Assumes nothing.
-use borrow.Author.Rules.{rules}
 use Rattle.names.proofs.TableLaws.{pair-none, pair-long, pair_fits}
 use Rattle.names.proofs.pair_good.Goals as goal
 

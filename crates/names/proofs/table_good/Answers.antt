@@ -1,14 +1,10 @@
 -- `names::table_good` meets its contract: the pairs passed are good. Assumes nothing.
 use borrow.Author.Rules.{rules}
-use borrow.Author.Tests.{not-true, not-false}
 use mathlib.Core.Path.{◌≡◌, sym, ◌∙◌}
 use mathlib.Core.Bool.{true, false}
-use Prim.Native.Nat.{◌-◌, ◌≤◌}
 use native.Mathlib.Numerals.{add-one}
 use native.Mathlib.Omega.{arith}
-use lib.ListN.{length}
 use Rattle.roles.specs.Sets.{most_roles}
-use Rattle.names.specs.Names.{contents_bytes, good_pairs}
 use Rattle.names.proofs.TableLaws.{pairs-none, pairs-more, pairs-broken, table-short, table_is}
 use Rattle.names.proofs.table_good.Goals as goal
 

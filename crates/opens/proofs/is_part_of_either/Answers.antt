@@ -1,5 +1,4 @@
 -- `opens::is_part_of_either` meets its contract: what is no part of the union is part of neither. Assumes nothing.
-use borrow.Author.Rules.{rules}
 use mathlib.Core.Path.{sym, ap, ap₂, ◌∙◌}
 use mathlib.Core.Bool.{◌||◌}
 use native.Mathlib.Omega.{arith}

@@ -10,7 +10,7 @@ use Rattle.words.specs.Words.{words}
 use Rattle.words.proofs.Runs.{spans-again, spans-words, length_run}
 use Rattle.roles.specs.Sets.{shares}
 use Rattle.opens.proofs.OpensLaws.{opens-fall, opens-compared}
-use Rattle.opens.proofs.PassLaws.{PassedFrom, passed_none, passed-one, passed-falls}
+use Rattle.opens.proofs.PassLaws.{passed_none, passed-one, passed-falls}
 use Rattle.opens.proofs.opens_few.Goals as goal
 
 pub loop-j-init : goal.loop-j-init

@@ -1,5 +1,4 @@
 -- `opens::opens_good` meets its contract: what is surely good is good. Assumes nothing.
-use borrow.Author.Rules.{rules}
 use mathlib.Core.Path.{sym, ◌∙◌}
 use lib.ListN.{take, drop}
 use Rattle.words.specs.Words.{words}

@@ -14,7 +14,7 @@ use Rattle.words.proofs.Runs.{spans-again, spans-words, run-word, length_run}
 use Rattle.roles.specs.Sets.{shares, joined}
 use Rattle.opens.specs.Parts.{stand_apart}
 use Rattle.opens.proofs.OpensLaws.{apart-first, apart-fewer, opens-fall, opens-touch}
-use Rattle.opens.proofs.PassLaws.{PassedFrom, passed_none, passed-two, passed-falls, second-falls, apart-two, passed-all}
+use Rattle.opens.proofs.PassLaws.{passed_none, passed-two, passed-falls, second-falls, apart-two, passed-all}
 use Rattle.opens.proofs.opens_many.Goals.{After-has_part_of_two}
 use Rattle.opens.proofs.opens_many.Goals as goal
 

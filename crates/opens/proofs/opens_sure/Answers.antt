@@ -1,7 +1,7 @@
 -- `opens::opens_sure` meets its contract: of the sets passed, each has a role outside the later ones. Assumes nothing.
 use borrow.Author.Rules.{rules}
 use mathlib.Core.Path.{◌≡◌, refl, ap, ◌∙◌}
-use mathlib.Core.Bool.{true, not}
+use mathlib.Core.Bool.{not}
 use Prim.Native.Nat.{ℕ, ◌-◌}
 use native.Mathlib.Omega.{arith}
 use lib.ListN.{take, drop}
@@ -10,7 +10,7 @@ use Rattle.words.proofs.Runs.{spans-again, spans-words, run-before}
 use Rattle.roles.specs.Sets.{shares}
 use Rattle.opens.specs.Parts.{each_outside}
 use Rattle.opens.proofs.OpensLaws.{outside-more, outside-ends, sure-falls, sure-ends, sure-made}
-use Rattle.opens.proofs.PassLaws.{PassedFrom, passed_none, outside-none, passed-one, passed-falls}
+use Rattle.opens.proofs.PassLaws.{passed_none, outside-none, passed-one, passed-falls}
 use Rattle.opens.proofs.opens_sure.Goals as goal
 
 pub loop-j-init : goal.loop-j-init

@@ -1,5 +1,4 @@
 -- `opens::places_few` meets its contract: each arm asks for the number of open sets that is there. Assumes nothing.
-use borrow.Author.Rules.{rules}
 use Prim.Native.Nat.{ℕ, zero, suc, ◌≤◌}
 use mathlib.Core.Path.{◌≡◌}
 use native.Mathlib.Omega.{arith}

@@ -1,5 +1,4 @@
 -- `opens::places_many` meets its contract: each arm asks for the number of open sets that is there. Assumes nothing.
-use borrow.Author.Rules.{rules}
 use mathlib.Core.Path.{◌≡◌}
 use Prim.Native.Nat.{ℕ, ◌≤◌}
 use native.Mathlib.Omega.{arith}

@@ -1,5 +1,4 @@
 -- `requests::allow_of` meets its contract. Assumes nothing.
-use borrow.Author.Rules.{rules}
 use mathlib.Core.Path.{sym, ◌∙◌}
 use Rattle.meaning.specs.declared.Happening.TheVariants.{Allow}
 use Rattle.requests.specs.Request.{told, in_state, by_letter}

@@ -1,5 +1,4 @@
 -- `requests::decide_of` meets its contract. Assumes nothing.
-use borrow.Author.Rules.{rules}
 use mathlib.Core.Path.{sym, ◌∙◌}
 use Rattle.requests.specs.Fields.{ended}
 use Rattle.requests.specs.Request.{by_letter}

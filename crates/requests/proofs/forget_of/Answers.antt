@@ -1,5 +1,4 @@
 -- `requests::forget_of` meets its contract. Assumes nothing.
-use borrow.Author.Rules.{rules}
 use mathlib.Core.Path.{sym, ◌∙◌}
 use native.Mathlib.Omega.{arith}
 use Rattle.requests.specs.Request.{by_letter}

@@ -1,5 +1,4 @@
 -- `requests::withdrawn_of` meets its contract. Assumes nothing.
-use borrow.Author.Rules.{rules}
 use mathlib.Core.Path.{sym, ◌∙◌}
 use Rattle.meaning.specs.declared.Happening.TheVariants.{Withdrawn}
 use Rattle.requests.specs.Request.{told, in_state, by_letter}

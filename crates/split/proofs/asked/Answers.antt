@@ -1,5 +1,4 @@
 -- `split::asked` meets its contract. Assumes nothing.
-use borrow.Author.Rules.{rules}
 use mathlib.Core.Path.{sym, ap, ◌∙◌}
 use Rattle.split.specs.Split.{Held, held_all, said}
 use Rattle.split.proofs.SplitLaws.{none_only}

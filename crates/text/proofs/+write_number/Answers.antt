@@ -1,7 +1,5 @@
 -- `text::write_number` meets its contract: the digits but the last, then the last. Assumes nothing.
-use borrow.Author.Rules.{rules}
 use native.Mathlib.Omega.{arith}
-use lib.ListN.{length-set}
 use Rattle.text.proofs.WriteLaws.{wrote-length, write-small, write_step, length-small, length-step}
 use Rattle.text.proofs.+write_number.Goals as goal
 

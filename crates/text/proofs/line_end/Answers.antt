@@ -1,10 +1,6 @@
 -- `text::line_end` meets its contract: from each place passed, the first LF is the same. Assumes nothing.
 use borrow.Author.Rules.{rules}
-use mathlib.Core.Path.{◌≡◌}
-use Prim.Native.Nat.{◌+◌, ◌-◌}
 use native.Mathlib.Omega.{arith}
-use lib.ListN.{length, drop}
-use Rattle.text.specs.Lines.{before_lf}
 use Rattle.text.proofs.LineLaws.{before-hit, before-miss, before-end}
 use Rattle.text.proofs.line_end.Goals as goal
 

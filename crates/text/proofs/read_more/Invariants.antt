@@ -1,15 +1,7 @@
-use borrow.Author.Rules.{rules}
-use mathlib.Core.Path.{◌≡◌, sym, ap, ◌∙◌}
-use mathlib.Core.List.{List}
-use mathlib.Core.Bool.{false}
-use Prim.Native.Nat.{ℕ, ◌+◌, ◌-◌, ◌^◌, ◌≤◌, ◌<◌}
-use native.Mathlib.Omega.{arith}
-use lib.ListN.{length, drop, get_or}
-use Rattle.text.specs.Number.{digit_next, read_more}
-use Rattle.text.specs.Field.{number_field}
-use Rattle.text.specs.declared.NumberField.TheVariants as number
-use Rattle.text.proofs.NumberLaws.{digit-yes, digit-no, more-on, more-over, more-end}
-use Rattle.text.proofs.Walks.{next-cons, digit-there, digit-past, number-here}
+use mathlib.Core.Path.{◌≡◌}
+use Prim.Native.Nat.{◌-◌, ◌^◌, ◌≤◌, ◌<◌}
+use lib.ListN.{length, drop}
+use Rattle.text.specs.Number.{read_more}
 use Rattle.text.proofs.read_more.Given as goal
 
 abbrev pub invariant-loop-i : goal.invariant-loop-i

@@ -1,9 +1,7 @@
 -- `text::write_bytes` meets its contract: the bytes not yet passed finish the text. Assumes nothing.
 use borrow.Author.Rules.{rules}
-use Prim.Native.Nat.{◌≤◌, ◌-◌, ◌+◌}
 use native.Mathlib.Omega.{arith}
-use lib.ListN.{length, drop}
-use Rattle.text.proofs.WriteLaws.{Left, bytes-start, bytes-room, bytes_next, bytes-end}
+use Rattle.text.proofs.WriteLaws.{bytes-start, bytes-room, bytes_next, bytes-end}
 use Rattle.text.proofs.write_bytes.Goals as goal
 
 pub loop-i-init : goal.loop-i-init

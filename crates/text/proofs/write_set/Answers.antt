@@ -2,10 +2,10 @@
 use borrow.Author.Rules.{rules}
 use mathlib.Core.Path.{◌≡◌, ap, ◌∙◌, subst}
 use mathlib.Core.Bool.{true, false}
-use Prim.Native.Nat.{ℕ, ◌+◌, ◌-◌, ◌^◌, ◌≤◌, ◌<◌}
+use Prim.Native.Nat.{ℕ, ◌+◌, ◌^◌, ◌≤◌, ◌<◌}
 use native.Mathlib.Omega.{arith}
 use lib.ListN.{length}
-use Rattle.roles.specs.Sets.{most_roles, has, all_below, below64, outside}
+use Rattle.roles.specs.Sets.{most_roles, all_below, below64, outside}
 use Rattle.roles.proofs.Naming.{outside-le}
 use Rattle.text.specs.Ascii.{minus}
 use Rattle.text.specs.Set.{role_text, set_text}

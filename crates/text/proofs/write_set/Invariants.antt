@@ -1,14 +1,10 @@
-use borrow.Author.Rules.{rules}
-use mathlib.Core.Path.{◌≡◌, ap, ◌∙◌, subst}
-use mathlib.Core.Bool.{true, false}
-use Prim.Native.Nat.{ℕ, ◌+◌, ◌-◌, ◌^◌, ◌≤◌, ◌<◌}
-use native.Mathlib.Omega.{arith}
+use mathlib.Core.Path.{◌≡◌}
+use mathlib.Core.Bool.{true}
+use Prim.Native.Nat.{◌+◌, ◌-◌, ◌≤◌, ◌<◌}
 use lib.ListN.{length}
-use Rattle.roles.specs.Sets.{most_roles, has, all_below, below64, outside}
-use Rattle.roles.proofs.Naming.{outside-le}
-use Rattle.text.specs.Ascii.{minus}
-use Rattle.text.specs.Set.{role_text, set_text}
-use Rattle.text.proofs.WriteLaws.{wrote_one, Left, left-start, left-next, left-room, left_end, empty-text, rest_text, rest-start, rest_has, rest_end, rest-next, next-above, next-in, none_below, those-below}
+use Rattle.roles.specs.Sets.{most_roles, has}
+use Rattle.text.specs.Set.{set_text}
+use Rattle.text.proofs.WriteLaws.{Left, rest_text}
 use Rattle.text.proofs.write_set.Given as goal
 
 -- the place for the next role, which is in the set

@@ -1,5 +1,4 @@
 -- `text::write_set_field` meets its contract. Assumes nothing.
-use borrow.Author.Rules.{rules}
 use mathlib.Core.Path.{◌∙◌}
 use lib.ListN.{length-set}
 use Rattle.text.specs.Ascii.{space}

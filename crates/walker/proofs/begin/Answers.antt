@@ -1,6 +1,4 @@
 -- `walker::begin` meets its contract. Assumes nothing.
-use borrow.Author.Rules.{rules}
-use borrow.Author.Tests.{not-true, not-false}
 use mathlib.Core.Path.{sym, ◌∙◌}
 use Rattle.walker.proofs.WalkLaws.{begun-good, begun-bad}
 use Rattle.walker.proofs.begin.Goals as goal

@@ -1,6 +1,4 @@
 -- `walker::go_on_at` meets its contract. Assumes nothing.
-use borrow.Author.Rules.{rules}
-use borrow.Author.Tests.{not-true, not-false}
 use mathlib.Core.Path.{sym, ◌∙◌}
 use Rattle.walker.proofs.WalkLaws.{go_on_at-good, go_on_at-bad}
 use Rattle.walker.proofs.go_on_at.Goals as goal

@@ -1,5 +1,4 @@
 -- `walker::hand` meets its contract. Assumes nothing.
-use borrow.Author.Rules.{rules}
 use mathlib.Core.Path.{◌≡◌, sym, ◌∙◌}
 use mathlib.Core.Bool.{true, false}
 use Prim.Native.Nat.{ℕ, ◌+◌, ◌<◌}
@@ -58,5 +57,6 @@ returns c =
     let i = c.args.next in
     handed-none i _ c.blank.ensures
     ∙ sym (elim c.if-next-lt-MOST_ROWS.branch [
-      then-next-lt-MOST_ROWS+else-next-rows_used w ↦ walk_end l i (c.requires w.if-next-lt-MOST_ROWS.true).good (rw w.rows_used.ensures at w.if-next-rows_used.false)
-    | else-next-lt-MOST_ROWS w ↦ walk-past l i w.if-next-lt-MOST_ROWS.false ])
+      | then-next-lt-MOST_ROWS+else-next-rows_used w ↦ walk_end l i (c.requires w.if-next-lt-MOST_ROWS.true).good (rw w.rows_used.ensures at w.if-next-rows_used.false)
+      | else-next-lt-MOST_ROWS w ↦ walk-past l i w.if-next-lt-MOST_ROWS.false
+    ])

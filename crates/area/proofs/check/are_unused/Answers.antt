@@ -3,7 +3,6 @@ use mathlib.Core.Path.{ap₂, ◌∙◌}
 use mathlib.Core.Bool.{◌&&◌}
 use Rattle.words.specs.Words.{words}
 use Rattle.area.proofs.CheckLaws.{zero-rows}
-use borrow.Author.Rules.{rules}
 use Rattle.area.proofs.check.are_unused.Goals as goal
 
 pub returns : goal.returns

@@ -11,7 +11,6 @@ use Rattle.meaning.specs.Events.{last_policy_state}
 use Rattle.area.specs.Layout.{most_rows, area_bytes, rows_used, each_below, good_row_at, good_area, good_bytes}
 use Rattle.area.specs.Parts.{zero_rows}
 use Rattle.area.proofs.CheckLaws.{area-long, no-roles, many-roles, many-rows, wide-policy, area-made}
-use borrow.Author.Rules.{rules}
 use Rattle.area.proofs.check.check.Goals as goal
 
 module _ (l : List ℕ) (long : length l ≡ area_bytes) where
@@ -50,12 +49,11 @@ returns-then-policy-gt-LAST_POLICY_STATE c =
     (subst (λ (n : ℕ). last_policy_state < n) c.get_word-policy.ensures c.if-policy-gt-LAST_POLICY_STATE.true) ∙ sym (whole l c.if-a-ne-AREA_BYTES.false)
 
 pub rows_good-requires : goal.rows_good-requires
-rows_good-requires c =
-    (
-      c.if-a-ne-AREA_BYTES.false,
-      c.if-used.false,
-      c.all_below.ensures ∙ below64-all_below c.get_word-n.result c.if-n-gt-MOST_ROLES.false ∙ ap all_below c.get_word-n.ensures,
-    )
+rows_good-requires c = (
+  c.if-a-ne-AREA_BYTES.false,
+  c.if-used.false,
+  c.all_below.ensures ∙ below64-all_below c.get_word-n.result c.if-n-gt-MOST_ROLES.false ∙ ap all_below c.get_word-n.ensures,
+)
 
 pub returns : goal.returns
 returns c =

@@ -1,14 +1,9 @@
-use borrow.Author.Rules.{rules}
-use borrow.Author.Tests.{not-true, not-false}
-use mathlib.Core.Path.{◌≡◌, refl, sym, ap, ◌∙◌}
-use mathlib.Core.Bool.{true, false}
+use mathlib.Core.Path.{◌≡◌}
 use mathlib.Core.List.{List}
-use Prim.Native.Nat.{ℕ, ◌+◌, ◌-◌, ◌≤◌}
-use native.Mathlib.Omega.{arith}
-use Rattle.words.specs.Words.{words, all_zero}
+use Prim.Native.Nat.{ℕ, ◌-◌, ◌≤◌}
+use Rattle.words.specs.Words.{words}
 use Rattle.area.specs.Layout.{most_rows}
 use Rattle.area.specs.Parts.{zero_rows}
-use Rattle.area.proofs.CheckLaws.{zero_more}
 use Rattle.area.proofs.check.rest_unused.Given as goal
 
 -- the rows before row i are passed

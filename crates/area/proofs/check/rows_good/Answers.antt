@@ -1,5 +1,4 @@
 -- `check::rows_good` meets its contract: of no rows each is good. Assumes nothing.
-use borrow.Author.Rules.{rules}
 use mathlib.Core.Path.{sym, ap}
 use Prim.Native.Nat.{ℕ}
 use Rattle.words.specs.Words.{words}

@@ -1,5 +1,4 @@
 -- `RoleSet::outside` meets its contract. Assumes nothing.
-use borrow.Author.Rules.{rules}
 use mathlib.Core.Path.{ap}
 use native.Mathlib.Omega.{arith}
 use lib.Count.{trailing_le}

@@ -1,5 +1,4 @@
 -- `RoleSet::single` meets its contract. Assumes nothing.
-use borrow.Author.Rules.{rules}
 use mathlib.Core.Path.{sym, ◌∙◌}
 use Rattle.roles.specs.Sets.{single}
 use Rattle.roles.proofs.Laws.{below64-single, below64-no-role}

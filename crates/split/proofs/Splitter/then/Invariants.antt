@@ -1,14 +1,8 @@
-use borrow.Author.Rules.{rules}
-use mathlib.Core.List.{List, ◌++◌, append-nil}
-use mathlib.Core.Path.{◌≡◌, refl, sym, ap, ◌∙◌}
-use Prim.Native.Nat.{ℕ, ◌+◌, ◌-◌, ◌≤◌, ◌<◌}
-use native.Mathlib.Nat.{add-zero}
-use native.Mathlib.Omega.{arith}
-use lib.ListN.{length, take, get_or, length-set}
-use lib.Seq.{length-take-le, take_all}
+use mathlib.Core.List.{◌++◌}
+use mathlib.Core.Path.{◌≡◌}
+use Prim.Native.Nat.{◌+◌, ◌-◌, ◌≤◌}
+use lib.ListN.{length, take}
 use Rattle.requests.specs.Request.{most_bytes}
-use Rattle.split.specs.Split.{Held, short, held_all}
-use Rattle.split.proofs.SplitLaws.{held-short, held-long, all-long, all-over, all-fits, then_one}
 use Rattle.split.proofs.Splitter.then.Given as goal
 
 abbrev pub invariant-loop-i : goal.invariant-loop-i
