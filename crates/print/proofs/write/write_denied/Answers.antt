@@ -1,5 +1,4 @@
 -- `print::write::write_denied` meets its contract. Assumes nothing.
-use borrow.Author.Rules.{rules}
 use mathlib.Core.Path.{◌≡◌, ap, ◌∙◌}
 use mathlib.Core.List.{append-nil}
 use Prim.Native.Nat.{ℕ}

@@ -1,9 +1,9 @@
 -- `print::write::write_opens` meets its contract: the sets not yet passed finish the text. Assumes nothing.
 use borrow.Author.Rules.{rules}
-use Prim.Native.Nat.{◌≤◌, ◌-◌, ◌+◌}
+use Prim.Native.Nat.{◌+◌}
 use native.Mathlib.Omega.{arith}
-use lib.ListN.{length, drop, get_or}
-use Rattle.text.proofs.WriteLaws.{Left, left-start, left-next, left-room, left_end}
+use lib.ListN.{drop, get_or}
+use Rattle.text.proofs.WriteLaws.{left-start, left-next, left-room, left_end}
 use Rattle.requests.specs.Request.{letter_a}
 use Rattle.print.specs.Printed.{allows, tells, lines_text}
 use Rattle.print.specs.Lines.{reply_line}

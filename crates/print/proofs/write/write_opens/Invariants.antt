@@ -1,12 +1,7 @@
-use borrow.Author.Rules.{rules}
 use Prim.Native.Nat.{◌≤◌, ◌-◌, ◌+◌}
-use native.Mathlib.Omega.{arith}
-use lib.ListN.{length, drop, get_or}
-use Rattle.text.proofs.WriteLaws.{Left, left-start, left-next, left-room, left_end}
-use Rattle.requests.specs.Request.{letter_a}
+use lib.ListN.{length, drop}
+use Rattle.text.proofs.WriteLaws.{Left}
 use Rattle.print.specs.Printed.{allows, tells, lines_text}
-use Rattle.print.specs.Lines.{reply_line}
-use Rattle.print.proofs.LineLaws.{opens-next, opens-end}
 use Rattle.print.proofs.write.write_opens.Given as goal
 
 abbrev pub invariant-loop-i : goal.invariant-loop-i
