@@ -15,14 +15,12 @@ one_line : (p d g : ℕ) → (d ≡ 0 → ⊥) → lines_text (tells p (denials 
 one_line p d g e = some-denied p d g e ∙ append-nil (reply_line letter_d p d g)
 
 pub returns-then-d-eq0 : goal.returns-then-d-eq0
-returns-then-d-eq0 c = let s = c in rw (none-denied s.args.p s.args.d.bits s.args.g c.if-d-eq0.true) (wrote_nothing s.args.out.now 0)
+returns-then-d-eq0 c = rw (none-denied c.args.p c.args.d.bits c.args.g c.if-d-eq0.true) (wrote_nothing c.args.out.now 0)
 
 pub write_reply-requires : goal.write_reply-requires
 write_reply-requires c =
-    let s = c in
-    omega (arith, s.requires, ap length (one_line s.args.p s.args.d.bits s.args.g c.if-d-eq0.false))
+    omega (arith, c.requires, ap length (one_line c.args.p c.args.d.bits c.args.g c.if-d-eq0.false))
 
 pub returns : goal.returns
 returns c =
-    let s = c in
-    rw (one_line s.args.p s.args.d.bits s.args.g c.if-d-eq0.false) c.write_reply.ensures
+    rw (one_line c.args.p c.args.d.bits c.args.g c.if-d-eq0.false) c.write_reply.ensures

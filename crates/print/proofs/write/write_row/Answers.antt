@@ -28,24 +28,19 @@ module _ (s : Start) where
   few = tidy-few most_opens s.args.w.opens s.requires.0 (omega arith)
 
 pub write_denied-place-requires : goal.write_denied-place-requires
-write_denied-place-requires c = let s = c in omega (arith, room-first 0 (denied-lines (goal.at.write_denied-place-requires s).Start) (open-lines (goal.at.write_denied-place-requires s).Start) (room (goal.at.write_denied-place-requires s).Start))
+write_denied-place-requires c = omega (arith, room-first 0 (denied-lines (goal.at.write_denied-place-requires c).Start) (open-lines (goal.at.write_denied-place-requires c).Start) (room (goal.at.write_denied-place-requires c).Start))
 
 pub slice_bounds-sets-end : goal.slice_bounds-sets-end
 slice_bounds-sets-end c = few (goal.at.slice_bounds-sets-end c).Start
 
 pub slice_bounds-write_opens-end : goal.slice_bounds-write_opens-end
 slice_bounds-write_opens-end c =
-    let s = c in
-    sym (length-take-le s.args.w.opens.count s.args.w.opens.sets (few (goal.at.slice_bounds-write_opens-end s).Start))
+    sym (length-take-le c.args.w.opens.count c.args.w.opens.sets (few (goal.at.slice_bounds-write_opens-end c).Start))
 
 pub write_opens-requires : goal.write_opens-requires
 write_opens-requires c =
-    let s = c in
-    wrote-room c.write_denied-place.ensures (open-lines (goal.at.write_opens-requires s).Start) (room (goal.at.write_opens-requires s).Start)
+    wrote-room c.write_denied-place.ensures (open-lines (goal.at.write_opens-requires c).Start) (room (goal.at.write_opens-requires c).Start)
 
 pub returns : goal.returns
 returns c =
-    let w = c in
-    let d = w in
-    let s = d in
-    rw (row-lines s.args.g s.args.p (row_of s.args.w)) (wrote_then d.write_denied-place.ensures w.write_opens.ensures)
+    rw (row-lines c.args.g c.args.p (row_of c.args.w)) (wrote_then c.write_denied-place.ensures c.write_opens.ensures)

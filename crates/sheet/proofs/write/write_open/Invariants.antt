@@ -1,16 +1,10 @@
-use borrow.Author.Rules.{rules}
-use borrow.Author.Tests.{not-true, not-false}
-use mathlib.Core.Path.{sym, ◌∙◌}
-use mathlib.Core.Bool.{true, false}
-use mathlib.Core.List.{◌++◌}
+use mathlib.Core.Bool.{false}
 use Prim.Native.Nat.{◌+◌, ◌-◌, ◌≤◌}
-use native.Mathlib.Omega.{arith}
-use lib.ListN.{length, get_or}
+use lib.ListN.{length}
 use Rattle.meaning.specs.Lists.{keep}
-use Rattle.text.specs.Set.{roles_of}
-use Rattle.text.proofs.WriteLaws.{Left, left-start, left-next, left-room, left_end}
-use Rattle.sheet.specs.Text.{larger, name_text, names_text, parting, parted_text}
-use Rattle.sheet.proofs.Parts.{open_from, open-one, open-other, open-end}
+use Rattle.text.proofs.WriteLaws.{Left}
+use Rattle.sheet.specs.Text.{larger, name_text, parted_text}
+use Rattle.sheet.proofs.Parts.{open_from}
 use Rattle.sheet.proofs.write.write_open.Given as goal
 
 abbrev pub invariant-loop-i : goal.invariant-loop-i

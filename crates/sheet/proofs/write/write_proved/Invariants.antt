@@ -1,13 +1,9 @@
-use borrow.Author.Rules.{rules}
-use mathlib.Core.Path.{sym, ◌∙◌}
 use Prim.Native.Nat.{◌+◌, ◌-◌, ◌≤◌}
-use native.Mathlib.Omega.{arith}
-use lib.ListN.{length, get_or}
+use lib.ListN.{length}
 use Rattle.meaning.specs.Lists.{keep}
-use Rattle.text.specs.Set.{roles_of}
-use Rattle.text.proofs.WriteLaws.{Left, left-start, left-next, left-room, left_end}
+use Rattle.text.proofs.WriteLaws.{Left}
 use Rattle.sheet.specs.Text.{alone, roles_of_all, name_text, names_text}
-use Rattle.sheet.proofs.Parts.{proved_from, proved-one, proved-other, proved-end}
+use Rattle.sheet.proofs.Parts.{proved_from}
 use Rattle.sheet.proofs.write.write_proved.Given as goal
 
 abbrev pub invariant-loop-i : goal.invariant-loop-i

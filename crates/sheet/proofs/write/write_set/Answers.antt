@@ -1,12 +1,10 @@
 -- `sheet::write::write_set` meets its contract: the roles from the next one on finish the text. Assumes nothing.
 use borrow.Author.Rules.{rules}
 use mathlib.Core.Path.{◌≡◌, ap, ◌∙◌, subst}
-use mathlib.Core.Bool.{true}
 use mathlib.Core.List.{List, ◌∷◌}
-use Prim.Native.Nat.{ℕ, ◌+◌, ◌-◌, ◌^◌, ◌≤◌, ◌<◌}
+use Prim.Native.Nat.{ℕ, ◌+◌, ◌^◌, ◌≤◌, ◌<◌}
 use native.Mathlib.Omega.{arith}
-use lib.ListN.{length}
-use Rattle.roles.specs.Sets.{most_roles, has, all_below, below64, outside}
+use Rattle.roles.specs.Sets.{most_roles, all_below, below64, outside}
 use Rattle.roles.proofs.Naming.{outside-le}
 use Rattle.text.specs.Ascii.{space}
 use Rattle.text.specs.Set.{roles_of}
@@ -18,11 +16,8 @@ use Rattle.sheet.proofs.write.write_set.Goals as goal
 
 -- a role is written, and the next one is looked for
 module _ (c : After-outside-r-in-loop-r) where
-  abbrev start : After-outside-r-in-loop-r
-  start = c
-
   abbrev b : ℕ
-  b = start.args.s.bits
+  b = c.args.s.bits
 
   abbrev r : ℕ
   r = c.loop-r.r
@@ -63,19 +58,19 @@ write_role-place-requires c =
     (s.requires.0, omega arith, left-room (space ∷ f l.r) (names_text f (rest_roles (l.r + 1) b)) l.invariant.2 (names-has f l.r b (omega arith) (l.invariant.3 (omega arith))) l.invariant.1)
 
 pub loop-r-smaller : goal.loop-r-smaller
-loop-r-smaller c = omega (arith, found (goal.at.loop-r-smaller c).After-outside-r-in-loop-r, higher (goal.at.loop-r-smaller c).After-outside-r-in-loop-r, inside (goal.at.loop-r-smaller c).After-outside-r-in-loop-r)
+loop-r-smaller c = let k = (goal.at.loop-r-smaller c).After-outside-r-in-loop-r in omega (arith, found k, higher k, inside k)
 
 pub loop-r-preserved : goal.loop-r-preserved
 loop-r-preserved c =
+    let k = (goal.at.loop-r-preserved c).After-outside-r-in-loop-r in
     let l = c.loop-r in
-    let a = (start (goal.at.loop-r-preserved c).After-outside-r-in-loop-r).args in
-    let f : ℕ → List ℕ = name_text a.works.now a.standard.now in
-    rw (found (goal.at.loop-r-preserved c).After-outside-r-in-loop-r) (
-      outside-le (b (goal.at.loop-r-preserved c).After-outside-r-in-loop-r) (below64 (all_below (r (goal.at.loop-r-preserved c).After-outside-r-in-loop-r + 1))),
+    let f : ℕ → List ℕ = name_text c.args.works.now c.args.standard.now in
+    rw (found k) (
+      outside-le (b k) (below64 (all_below (r k + 1))),
       l.invariant.1,
-      rw (← roles-next (r (goal.at.loop-r-preserved c).After-outside-r-in-loop-r + 1) (b (goal.at.loop-r-preserved c).After-outside-r-in-loop-r) (below64 (all_below (r (goal.at.loop-r-preserved c).After-outside-r-in-loop-r + 1))) (fits (goal.at.loop-r-preserved c).After-outside-r-in-loop-r) (omega (arith, inside (goal.at.loop-r-preserved c).After-outside-r-in-loop-r)) (those-below (r (goal.at.loop-r-preserved c).After-outside-r-in-loop-r)))
-          (left-next l.invariant.2 (names-has f (r (goal.at.loop-r-preserved c).After-outside-r-in-loop-r) (b (goal.at.loop-r-preserved c).After-outside-r-in-loop-r) (inside (goal.at.loop-r-preserved c).After-outside-r-in-loop-r) (l.invariant.3 (inside (goal.at.loop-r-preserved c).After-outside-r-in-loop-r))) c.write_role-place.ensures),
-      next-in (b (goal.at.loop-r-preserved c).After-outside-r-in-loop-r) (below64 (all_below (r (goal.at.loop-r-preserved c).After-outside-r-in-loop-r + 1))) (fits (goal.at.loop-r-preserved c).After-outside-r-in-loop-r),
+      rw (← roles-next (r k + 1) (b k) (below64 (all_below (r k + 1))) (fits k) (omega (arith, inside k)) (those-below (r k)))
+          (left-next l.invariant.2 (names-has f (r k) (b k) (inside k) (l.invariant.3 (inside k))) c.write_role-place.ensures),
+      next-in (b k) (below64 (all_below (r k + 1))) (fits k),
     )
 
 pub returns : goal.returns

@@ -1,17 +1,11 @@
-use borrow.Author.Rules.{rules}
-use mathlib.Core.Path.{◌≡◌, ap, ◌∙◌, subst}
+use mathlib.Core.Path.{◌≡◌}
 use mathlib.Core.Bool.{true}
-use mathlib.Core.List.{List, ◌∷◌}
-use Prim.Native.Nat.{ℕ, ◌+◌, ◌-◌, ◌^◌, ◌≤◌, ◌<◌}
-use native.Mathlib.Omega.{arith}
+use Prim.Native.Nat.{◌+◌, ◌-◌, ◌≤◌, ◌<◌}
 use lib.ListN.{length}
-use Rattle.roles.specs.Sets.{most_roles, has, all_below, below64, outside}
-use Rattle.roles.proofs.Naming.{outside-le}
-use Rattle.text.specs.Ascii.{space}
+use Rattle.roles.specs.Sets.{most_roles, has}
 use Rattle.text.specs.Set.{roles_of}
-use Rattle.text.proofs.WriteLaws.{Left, left-start, left-next, left-room, left_end, rest_roles, roles-start, roles-next, next-above, next-in, none_below, those-below}
+use Rattle.text.proofs.WriteLaws.{Left, rest_roles}
 use Rattle.sheet.specs.Text.{name_text, names_text}
-use Rattle.sheet.proofs.Parts.{names-has, names-end}
 use Rattle.sheet.proofs.write.write_set.Given as goal
 
 -- the place for the next role, which is in the set
