@@ -1,5 +1,4 @@
 -- The laws behind the code of `answers`; other crates use those of `Texts` and `ShowLaws`. `ThirdField` has the theorem of that name.
-mod Again
 mod AnswerLaws
 pub mod ShowLaws
 pub mod OneOutcome

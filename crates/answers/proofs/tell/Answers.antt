@@ -1,5 +1,4 @@
 -- `answers::tell` meets its contract. Assumes nothing.
-use borrow.Author.Rules.{rules}
 use mathlib.Core.Path.{subst⁻¹}
 use Rattle.meaning.specs.declared.Happening.{Happening}
 use Rattle.calls.specs.Answers.{Gives}
@@ -9,27 +8,19 @@ use Rattle.answers.proofs.tell.Goals as goal
 pub returns-in-Deny : goal.returns-in-Deny
 unfolding out_of call_for
 returns-in-Deny c =
-    let k = c in
-    let s = k in
-    subst⁻¹ (λ (x : Happening). Gives (out_of (call_for s.args.e.permission x s.args.e.state) s.args.area.now) k.event.result k.event.new.a) k.in-Deny.is k.event.ensures
+    subst⁻¹ (λ (x : Happening). Gives (out_of (call_for c.args.e.permission x c.args.e.state) c.args.area.now) c.event.result c.event.new.a) c.in-Deny.is c.event.ensures
 
 pub returns-in-Allow : goal.returns-in-Allow
 unfolding out_of call_for
 returns-in-Allow c =
-    let k = c in
-    let s = k in
-    subst⁻¹ (λ (x : Happening). Gives (out_of (call_for s.args.e.permission x s.args.e.state) s.args.area.now) k.event-in-Allow.result k.event-in-Allow.new.a) k.in-Allow.is k.event-in-Allow.ensures
+    subst⁻¹ (λ (x : Happening). Gives (out_of (call_for c.args.e.permission x c.args.e.state) c.args.area.now) c.event-in-Allow.result c.event-in-Allow.new.a) c.in-Allow.is c.event-in-Allow.ensures
 
 pub returns-in-Withdrawn : goal.returns-in-Withdrawn
 unfolding out_of call_for
 returns-in-Withdrawn c =
-    let k = c in
-    let s = k in
-    subst⁻¹ (λ (x : Happening). Gives (out_of (call_for s.args.e.permission x s.args.e.state) s.args.area.now) k.event-in-Withdrawn.result k.event-in-Withdrawn.new.a) k.in-Withdrawn.is k.event-in-Withdrawn.ensures
+    subst⁻¹ (λ (x : Happening). Gives (out_of (call_for c.args.e.permission x c.args.e.state) c.args.area.now) c.event-in-Withdrawn.result c.event-in-Withdrawn.new.a) c.in-Withdrawn.is c.event-in-Withdrawn.ensures
 
 pub returns-in-Given : goal.returns-in-Given
 unfolding out_of call_for
 returns-in-Given c =
-    let k = c in
-    let s = k in
-    subst⁻¹ (λ (x : Happening). Gives (out_of (call_for s.args.e.permission x s.args.e.state) s.args.area.now) k.event-in-Given.result k.event-in-Given.new.a) k.in-Given.is k.event-in-Given.ensures
+    subst⁻¹ (λ (x : Happening). Gives (out_of (call_for c.args.e.permission x c.args.e.state) c.args.area.now) c.event-in-Given.result c.event-in-Given.new.a) c.in-Given.is c.event-in-Given.ensures

@@ -1,5 +1,4 @@
 -- `answers::show::come_to` meets its contract. Assumes nothing.
-use borrow.Author.Rules.{rules}
 use mathlib.Core.Path.{refl}
 use Rattle.answers.specs.Show.{shows_on}
 use Rattle.answers.proofs.show.come_to.Goals as goal

@@ -9,7 +9,7 @@ use Rattle.text.specs.Number.{number_text}
 use Rattle.text.specs.Write.{Wrote}
 use Rattle.text.proofs.WriteLaws.{wrote_one, wrote_then, wrote-length, room-first, wrote-room}
 use Rattle.answers.specs.Texts.{with_role, role_text, answer_text}
-use Rattle.answers.proofs.write.write_decided.Goals.{After-write_role-arg-1}
+use Rattle.answers.proofs.write.write_decided.Goals.{After-write_number-b}
 use Rattle.answers.proofs.write.write_decided.Goals as goal
 
 -- what is written after each part, and the room that is left for the next
@@ -51,68 +51,61 @@ module _ (d : List ℕ) (at k a r : ℕ) (h : at + length (answer_text k (with_r
         whole = wrote_then (wrote_then (wrote_then spaced v) u) (wrote_one g t lf)
 
 -- at the call of `write_role`: the room for it, and what is written after it
-module _ (c : After-write_role-arg-1) where
-  abbrev start : After-write_role-arg-1
-  start = c
-
+module _ (c : After-write_number-b) where
   abbrev buffer : List ℕ
-  buffer = start.args.out.now
+  buffer = c.args.out.now
 
-  room : c.write_number-b.result + length (role_text start.args.role) ≤ length c.write_number-b.new.out
+  room : c.write_number-b.result + length (role_text c.args.role) ≤ length c.write_number-b.new.out
   room =
       let w = c.write_number-a in
       let v = c.write_number-b in
-      role-room buffer start.args.at start.args.number start.args.answer start.args.role start.requires w.new.0 w.result w.ensures v.new.0 v.result v.ensures
+      role-room buffer c.args.at c.args.number c.args.answer c.args.role c.requires w.new.out w.result w.ensures v.new.out v.result v.ensures
 
-  module _ (g : List ℕ) (t : ℕ) (u : Wrote c.write_number-b.new.out c.write_number-b.result (role_text start.args.role) g t) where
+  module _ (g : List ℕ) (t : ℕ) (u : Wrote c.write_number-b.new.out c.write_number-b.result (role_text c.args.role) g t) where
     inside : t < length g
     inside =
         let w = c.write_number-a in
         let v = c.write_number-b in
-        last buffer start.args.at start.args.number start.args.answer start.args.role start.requires w.new.0 w.result w.ensures v.new.0 v.result v.ensures g t u
+        last buffer c.args.at c.args.number c.args.answer c.args.role c.requires w.new.out w.result w.ensures v.new.out v.result v.ensures g t u
 
-    written : Wrote buffer start.args.at (answer_text start.args.number (with_role start.args.answer start.args.role)) (set g t lf) (t + 1)
+    written : Wrote buffer c.args.at (answer_text c.args.number (with_role c.args.answer c.args.role)) (set g t lf) (t + 1)
     written =
         let w = c.write_number-a in
         let v = c.write_number-b in
-        whole buffer start.args.at start.args.number start.args.answer start.args.role start.requires w.new.0 w.result w.ensures v.new.0 v.result v.ensures g t u
+        whole buffer c.args.at c.args.number c.args.answer c.args.role c.requires w.new.out w.result w.ensures v.new.out v.result v.ensures g t u
 
     long : length (set g t lf) ≡ length buffer
     long = wrote-length written
 
 pub write_number-a-requires : goal.write_number-a-requires
-write_number-a-requires c = let s = c in first s.args.out.now s.args.at s.args.number s.args.answer s.args.role s.requires
+write_number-a-requires c = first c.args.out.now c.args.at c.args.number c.args.answer c.args.role c.requires
 
 pub bounds-out-a : goal.bounds-out-a
 bounds-out-a c =
-    let s = c in
     let w = c.write_number-a in
-    place s.args.out.now s.args.at s.args.number s.args.answer s.args.role s.requires w.new.0 w.result w.ensures
+    place c.args.out.now c.args.at c.args.number c.args.answer c.args.role c.requires w.new.out w.result w.ensures
 
 pub overflow_add-a : goal.overflow_add-a
 overflow_add-a c =
-    let s = c in
     let w = c.write_number-a in
-    let h = place s.args.out.now s.args.at s.args.number s.args.answer s.args.role s.requires w.new.0 w.result w.ensures in
+    let h = place c.args.out.now c.args.at c.args.number c.args.answer c.args.role c.requires w.new.out w.result w.ensures in
     omega (arith, h, wrote-length w.ensures)
 
 pub write_number-b-requires : goal.write_number-b-requires
 write_number-b-requires c =
-    let s = c in
     let w = c.write_number-a in
-    rest s.args.out.now s.args.at s.args.number s.args.answer s.args.role s.requires w.new.0 w.result w.ensures
+    rest c.args.out.now c.args.at c.args.number c.args.answer c.args.role c.requires w.new.out w.result w.ensures
 
 pub bounds-out-e : goal.bounds-out-e
-bounds-out-e c = let u = c.write_role-e in inside (goal.at.bounds-out-e c).After-write_role-arg-1 u.new.0 u.result u.ensures
+bounds-out-e c = let u = c.write_role-e in inside (goal.at.bounds-out-e c).After-write_number-b u.new.out u.result u.ensures
 
 pub overflow_add-result : goal.overflow_add-result
 overflow_add-result c =
-    let k = c in
     let u = c.write_role-e in
-    omega (arith, inside (goal.at.overflow_add-result k).After-write_role-arg-1 u.new.0 u.result u.ensures, long (goal.at.overflow_add-result k).After-write_role-arg-1 u.new.0 u.result u.ensures, length-set u.new.0 u.result lf)
+    omega (arith, inside (goal.at.overflow_add-result c).After-write_number-b u.new.out u.result u.ensures, long (goal.at.overflow_add-result c).After-write_number-b u.new.out u.result u.ensures, length-set u.new.out u.result lf)
 
 pub returns : goal.returns
-returns c = let u = c.write_role-e in written (goal.at.returns c).After-write_role-arg-1 u.new.0 u.result u.ensures
+returns c = let u = c.write_role-e in written (goal.at.returns c).After-write_number-b u.new.out u.result u.ensures
 
 pub write_role-e-requires : goal.write_role-e-requires
-write_role-e-requires c = room (goal.at.write_role-e-requires c).After-write_role-arg-1
+write_role-e-requires c = room (goal.at.write_role-e-requires c).After-write_number-b

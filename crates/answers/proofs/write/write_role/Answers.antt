@@ -1,5 +1,4 @@
 -- `answers::write::write_role` meets its contract. Assumes nothing.
-use borrow.Author.Rules.{rules}
 use mathlib.Core.Path.{subst, subst⁻¹}
 use mathlib.Core.List.{List}
 use Prim.Native.Nat.{ℕ, ◌+◌, ◌≤◌}
@@ -12,13 +11,11 @@ use Rattle.answers.proofs.write.write_role.Goals as goal
 
 pub write_number_field-requires : goal.write_number_field-requires
 write_number_field-requires c =
-    let s = c in
-    subst (λ (t : List ℕ). s.args.at + length t ≤ length s.args.out.now) (a-role s.args.role c.if-role-lt-MOST_ROLES.true) s.requires
+    subst (λ (t : List ℕ). c.args.at + length t ≤ length c.args.out.now) (a-role c.args.role c.if-role-lt-MOST_ROLES.true) c.requires
 
 pub returns-then-role-lt-MOST_ROLES : goal.returns-then-role-lt-MOST_ROLES
 returns-then-role-lt-MOST_ROLES c =
-    let s = c in
-    rw (a-role s.args.role c.if-role-lt-MOST_ROLES.true) c.write_number_field.ensures
+    rw (a-role c.args.role c.if-role-lt-MOST_ROLES.true) c.write_number_field.ensures
 
 pub returns : goal.returns
 returns c =

@@ -1,5 +1,4 @@
 -- `answers::write::write_row` meets its contract. Assumes nothing.
-use borrow.Author.Rules.{rules}
 use mathlib.Core.Path.{refl, sym, ap}
 use mathlib.Core.List.{List, [], ◌∷◌, ◌++◌}
 use Prim.Native.Nat.{ℕ, ◌+◌, ◌≤◌, ◌<◌}
@@ -63,60 +62,52 @@ module _ (d : List ℕ) (at p : ℕ) (w : Row) (h : at + length (row_text (entry
         whole = wrote_then listed (wrote_one g z lf)
 
 pub bounds-out-at : goal.bounds-out-at
-bounds-out-at c = let s = c in let h = first s.args.out.now s.args.at s.args.p (row_of s.args.w) s.requires.1 in omega arith
+bounds-out-at c = let h = first c.args.out.now c.args.at c.args.p (row_of c.args.w) c.requires.1 in omega arith
 
 pub bounds-out-at-2 : goal.bounds-out-at-2
-bounds-out-at-2 c = let s = c in let h = first s.args.out.now s.args.at s.args.p (row_of s.args.w) s.requires.1 in simp length-set (omega arith)
+bounds-out-at-2 c = let h = first c.args.out.now c.args.at c.args.p (row_of c.args.w) c.requires.1 in simp length-set (omega arith)
 
 pub write_number-a-requires : goal.write_number-a-requires
 write_number-a-requires c =
-    let s = c in
-    wrote-room (signed s.args.out.now s.args.at s.args.p (row_of s.args.w) s.requires.1) (number_text s.args.p) (second s.args.out.now s.args.at s.args.p (row_of s.args.w) s.requires.1)
+    wrote-room (signed c.args.out.now c.args.at c.args.p (row_of c.args.w) c.requires.1) (number_text c.args.p) (second c.args.out.now c.args.at c.args.p (row_of c.args.w) c.requires.1)
 
 pub write_set_field-b-requires : goal.write_set_field-b-requires
 write_set_field-b-requires c =
-    let s = c in
     let v = c.write_number-a in
-    one s.args.out.now s.args.at s.args.p (row_of s.args.w) s.requires.1 v.new.0 v.result v.ensures
+    one c.args.out.now c.args.at c.args.p (row_of c.args.w) c.requires.1 v.new.out v.result v.ensures
 
 pub slice_bounds-sets-end : goal.slice_bounds-sets-end
 slice_bounds-sets-end c =
-    let s = c in
-    tidy-few most_opens s.args.w.opens s.requires.0 (omega arith)
+    tidy-few most_opens c.args.w.opens c.requires.0 (omega arith)
 
 pub slice_bounds-write_sets-end : goal.slice_bounds-write_sets-end
 slice_bounds-write_sets-end c =
-    let s = c in
-    sym (length-take-le s.args.w.opens.count s.args.w.opens.sets (tidy-few most_opens s.args.w.opens s.requires.0 (omega arith)))
+    sym (length-take-le c.args.w.opens.count c.args.w.opens.sets (tidy-few most_opens c.args.w.opens c.requires.0 (omega arith)))
 
 pub write_sets-e-requires : goal.write_sets-e-requires
 write_sets-e-requires c =
-    let s = c in
     let v = c.write_number-a in
     let u = c.write_set_field-b in
-    others s.args.out.now s.args.at s.args.p (row_of s.args.w) s.requires.1 v.new.0 v.result v.ensures u.new.0 u.result u.ensures
+    others c.args.out.now c.args.at c.args.p (row_of c.args.w) c.requires.1 v.new.out v.result v.ensures u.new.out u.result u.ensures
 
 pub bounds-out-e : goal.bounds-out-e
 bounds-out-e c =
-    let s = c in
     let v = c.write_number-a in
     let u = c.write_set_field-b in
     let y = c.write_sets-e in
-    last s.args.out.now s.args.at s.args.p (row_of s.args.w) s.requires.1 v.new.0 v.result v.ensures u.new.0 u.result u.ensures y.new.0 y.result y.ensures
+    last c.args.out.now c.args.at c.args.p (row_of c.args.w) c.requires.1 v.new.out v.result v.ensures u.new.out u.result u.ensures y.new.out y.result y.ensures
 
 pub overflow_add-result : goal.overflow_add-result
 overflow_add-result c =
-    let s = c in
     let v = c.write_number-a in
     let u = c.write_set_field-b in
     let y = c.write_sets-e in
-    let h = last s.args.out.now s.args.at s.args.p (row_of s.args.w) s.requires.1 v.new.0 v.result v.ensures u.new.0 u.result u.ensures y.new.0 y.result y.ensures in
-    omega (arith, h, wrote-length (listed s.args.out.now s.args.at s.args.p (row_of s.args.w) s.requires.1 v.new.0 v.result v.ensures u.new.0 u.result u.ensures y.new.0 y.result y.ensures))
+    let h = last c.args.out.now c.args.at c.args.p (row_of c.args.w) c.requires.1 v.new.out v.result v.ensures u.new.out u.result u.ensures y.new.out y.result y.ensures in
+    omega (arith, h, wrote-length (listed c.args.out.now c.args.at c.args.p (row_of c.args.w) c.requires.1 v.new.out v.result v.ensures u.new.out u.result u.ensures y.new.out y.result y.ensures))
 
 pub returns : goal.returns
 returns c =
-    let s = c in
     let v = c.write_number-a in
     let u = c.write_set_field-b in
     let y = c.write_sets-e in
-    whole s.args.out.now s.args.at s.args.p (row_of s.args.w) s.requires.1 v.new.0 v.result v.ensures u.new.0 u.result u.ensures y.new.0 y.result y.ensures
+    whole c.args.out.now c.args.at c.args.p (row_of c.args.w) c.requires.1 v.new.out v.result v.ensures u.new.out u.result u.ensures y.new.out y.result y.ensures

@@ -1,12 +1,12 @@
 -- `answers::write::write_sets` meets its contract: the sets not yet passed finish the text. Assumes nothing.
 use borrow.Author.Rules.{rules}
 use mathlib.Core.List.{[], ◌∷◌, ◌++◌}
-use Prim.Native.Nat.{◌≤◌, ◌-◌, ◌+◌}
+use Prim.Native.Nat.{◌+◌}
 use native.Mathlib.Omega.{arith}
-use lib.ListN.{length, drop, get_or}
+use lib.ListN.{drop, get_or}
 use Rattle.text.specs.Ascii.{space}
 use Rattle.text.specs.Set.{set_text}
-use Rattle.text.proofs.WriteLaws.{Left, left-start, left-next, left-room, left_end}
+use Rattle.text.proofs.WriteLaws.{left-start, left-next, left-room, left_end}
 use Rattle.answers.specs.Texts.{sets_text}
 use Rattle.answers.proofs.Texts.{sets-next, sets_end}
 use Rattle.answers.proofs.write.write_sets.Goals as goal
