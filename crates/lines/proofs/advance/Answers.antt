@@ -1,7 +1,7 @@
 -- `lines::advance` meets its contract: the rows left from before come first, and then line after line. Assumes nothing.
-use Rattle.std.proofs.Common.{◌≡◌, ℕ, ◌-◌, length, sym, refl, ap, ◌∙◌, arith, rules}
+use Rattle.std.proofs.Common.{◌≡◌, ℕ, length, sym, refl, ap, ◌∙◌, arith, rules}
 use Rattle.text.proofs.WriteLaws.{wrote-length}
-use Rattle.lines.proofs.Steps.{goes_on_lem, Midway, midway_start, midway-ready, midway-next, midway_end, no_room}
+use Rattle.lines.proofs.Steps.{goes_on_lem, midway_start, midway-ready, midway-next, midway_end, no_room}
 use Rattle.lines.proofs.advance.Goals as goal
 
 pub returns-then-room-lt-MOST_TEXT : goal.returns-then-room-lt-MOST_TEXT
@@ -20,7 +20,7 @@ pub read_line-p-requires : goal.read_line-p-requires
 read_line-p-requires c =
     let a = c.args in
     let at = c.loop-area in
-    midway-ready _ a.piece.now _ _ at.area at.out at.p at.invariant.2 (ap (λ (n : ℕ). goes_on_lem n a.piece.now at.p) (sym at.invariant.0) ∙ sym c.goes_on_lem.ensures ∙ c.loop-area-test.true)
+    midway-ready _ a.piece.now _ _ at.area at.out at.p at.invariant.2 (ap (λ (n : ℕ). goes_on_lem n a.piece.now at.p) (sym at.invariant.0) ∙ sym c.goes_on.ensures ∙ c.loop-area-test.true)
 
 pub loop-area-smaller : goal.loop-area-smaller
 loop-area-smaller c = let k = c.read_line-p.ensures in omega (arith, k.further, k.read)
@@ -29,7 +29,7 @@ pub loop-area-preserved : goal.loop-area-preserved
 loop-area-preserved c =
     let at = c.loop-area in
     let k = c.read_line-p in
-    let same : length k.new.1.0 ≡ length at.area = search rules in
+    let same : length k.new.area ≡ length at.area = search rules in
     (at.invariant.0, same ∙ at.invariant.1, midway-next _ _ _ _ at.area at.out at.p at.invariant.2 _ _ _ k.ensures)
 
 pub shape_of-area : goal.shape_of-area
@@ -44,4 +44,4 @@ returns c =
     let f = c.show_rest-p in
     let at = c.loop-area in
     midway_end a.run a.area.now a.piece.now a.out.now f.result _ f.ensures (search rules) at.area at.out at.p at.invariant.2
-    (ap (λ (n : ℕ). goes_on_lem n a.piece.now at.p) (sym at.invariant.0) ∙ sym c.goes_on_lem.ensures ∙ c.loop-area-test.false)
+    (ap (λ (n : ℕ). goes_on_lem n a.piece.now at.p) (sym at.invariant.0) ∙ sym c.goes_on.ensures ∙ c.loop-area-test.false)

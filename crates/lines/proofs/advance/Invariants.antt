@@ -1,6 +1,5 @@
-use Rattle.std.proofs.Common.{◌≡◌, ℕ, ◌-◌, length, sym, refl, ap, ◌∙◌, arith, rules}
-use Rattle.text.proofs.WriteLaws.{wrote-length}
-use Rattle.lines.proofs.Steps.{goes_on_lem, Midway, midway_start, midway-ready, midway-next, midway_end, no_room}
+use Rattle.std.proofs.Common.{◌≡◌, ◌-◌, length}
+use Rattle.lines.proofs.Steps.{Midway}
 use Rattle.lines.proofs.advance.Given as goal
 
 abbrev pub invariant-loop-area : goal.invariant-loop-area

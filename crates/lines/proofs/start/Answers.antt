@@ -1,6 +1,6 @@
 -- `lines::start` meets its contract. Assumes nothing.
-use Rattle.std.proofs.Common.{refl, rules}
+use Rattle.std.proofs.Common.{refl}
 use Rattle.lines.proofs.start.Goals as goal
 
 pub returns : goal.returns
-returns c = rw c.new.ensures refl
+returns c l = rw c.new.ensures refl
