@@ -2,7 +2,7 @@
 use mathlib.Core.Path.{◌≡◌, refl, sym, ap, ◌∙◌, subst, subst⁻¹}
 use mathlib.Core.Bool.{Bool, true, false, not, cond}
 use mathlib.Core.List.{List, [], ◌∷◌, ◌++◌, append-nil, append_assoc}
-use mathlib.Core.Logic.{◌⊎◌, inl, inr, ⊎_elim}
+use mathlib.Core.Logic.{inl, inr, ⊎_elim}
 use Prim.Native.Nat.{ℕ, ◌≤◌}
 use native.Mathlib.Omega.{arith}
 use lib.Dec.{T, not_T, eqb, eqb→eq}
@@ -26,6 +26,7 @@ abbrev row : ℕ → List ℕ → Row
 row d l = record { denied = d; opens = l }
 
 mem-first : (l k : List ℕ) (x : ℕ) → Mem x l → Mem x (l ++ k)
+mem-first [] k x m = elim m [ ]
 mem-first (y ∷ l) k x m = ⊎_elim (λ e. inl e) (λ q. inr (mem-first l k x q)) m
 
 mem-behind : (l k : List ℕ) (x : ℕ) → Mem x k → Mem x (l ++ k)
