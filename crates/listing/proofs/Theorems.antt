@@ -1,7 +1,7 @@
 -- What a reader of a table made of a list of names can rely on. Assumes nothing.
 use mathlib.Core.Path.{◌≡◌, refl, sym, ap, ◌∙◌, subst}
 use mathlib.Core.List.{List}
-use mathlib.Core.Logic.{◌↔◌, ◌⊎◌, ⊎_elim, by_cases}
+use mathlib.Core.Logic.{◌↔◌, ⊎_elim, by_cases}
 use Prim.Native.Nat.{ℕ, suc, ◌≤◌, ◌<◌}
 use native.Mathlib.Decide.{dec_lt, ℕ_discrete}
 use native.Mathlib.Omega.{arith}

@@ -1,5 +1,4 @@
 -- `listing::is_free` meets its contract. Assumes nothing.
-use borrow.Author.Rules.{rules}
 use Rattle.listing.proofs.Writing.{free-is}
 use Rattle.listing.proofs.is_free.Goals as goal
 
