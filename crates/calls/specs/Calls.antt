@@ -86,7 +86,7 @@ abbrev pub session_refusals : List ℕ → ℕ → ℕ → List Refusal
 session_refusals l p s = area_refusals l p (refusal 4 (not (part_of s (all_below (state_of l).roles))) ∷ [])
 
 unfoldable pub decide_of : List ℕ → ℕ → ℕ → Decided
-decide_of l p s = refuse (session_refusals l p s) bare (decide (row_for p (state_of l).rows) s)
+decide_of l p s = refuse (area_refusals l p (refusal 4 (not (part_of s (all_below (state_of l).roles))) ∷ [])) bare (decide (row_for p (state_of l).rows) s)
 
 pub record Look : Type 0 where
   pub decided : Decided

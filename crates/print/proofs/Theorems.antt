@@ -11,17 +11,17 @@ use lib.Dec.{T, ltb, leb, ltb→lt, lt→ltb, leb→le, le→leb}
 use lib.ListN.{length, drop, drop_of_length-le}
 use lib.Seq.{drop-cons}
 use Rattle.roles.proofs.Tests.{T_true, not_test}
-use Rattle.refusals.specs.Refusals.{ground}
-use Rattle.written.specs.Print.{shown}
-use Rattle.written.specs.Grounds.{OnGrounds, text}
-use Rattle.written.proofs.Laws.{shown-text, Within, kept-within, shown-within, on-grounds}
+use Rattle.refusals.specs.Refusals.{Ground, ground}
+use Rattle.written.specs.Print.{Print, shown}
+use Rattle.written.specs.Grounds as written
+use Rattle.written.proofs.Laws.{shown-text, Within, kept-within, shown-within, on-grounds, one-text}
 use Rattle.area.specs.Layout.{good_bytes}
 use Rattle.area.specs.State.{state_of, each}
 use Rattle.area.proofs.RowLaws.{none}
 use Rattle.table.specs.Table.{rows_in, nth}
 use Rattle.print.specs.Printed.{open_line, row_lines, printed}
 use Rattle.print.specs.Print.{least_room, open_refusals, row_refusals, print_open_of, print_row_of}
-use Rattle.print.specs.Printing.{rows_from, Printing}
+use Rattle.print.specs.Printing.{OnGrounds, text, rows_from, Printing}
 use Rattle.print.proofs.PrintLaws.{by-area, open-bad, open-short, open-writes, row-bad, row-none, row-short, row-writes, open-fits, row_fits}
 
 -- ---- each call on its grounds
@@ -52,15 +52,20 @@ row_within l i d = by-area l
     (λ h. let k : least_room ≤ length d = omega arith in let f = row_fits l g i u in rw (row-writes l i d g u k) (shown-within least_room d (row_lines (state_of l).policy (nth i (rows_in l))) f (omega arith))))
     (λ u. let k : length (rows_in l) ≤ i = omega arith in rw (row-none l i d g k) (kept-within least_room d 18)))
 
-open-answers : (l d : List ℕ) → OnGrounds 4096 d (print_open_of l d) (ground 1 (¬ (T (good_bytes l))) ∷ ground 16 (length d < 4096) ∷ [])
+-- what holds of every call that writes a text, with this length
+of-written : {d : List ℕ} {o : Print} {gs : List Ground} → written.OnGrounds least_room d o gs → OnGrounds d o gs
+of-written g = record { exactly = g.exactly; refused = g.refused; short = g.short; behind = g.behind }
+
+open-answers : (l d : List ℕ) → OnGrounds d (print_open_of l d) (ground 1 (¬ (T (good_bytes l))) ∷ ground 16 (length d < 4096) ∷ [])
 unfolding print_open_of
-open-answers l d = on-grounds least_room d (shown (open_line (state_of l)) d) (open_refusals l d) _ refl (refl, bad-area l, (refl, short-buffer d, tt)) tt tt (open-within l d)
+open-answers l d = of-written (on-grounds least_room d (shown (open_line (state_of l)) d) (open_refusals l d) _ refl (refl, bad-area l, (refl, short-buffer d, tt)) tt tt (open-within l d))
 
 row-answers : (l : List ℕ) (i : ℕ) (d : List ℕ)
-    → OnGrounds 4096 d (print_row_of l i d) (ground 1 (¬ (T (good_bytes l))) ∷ ground 18 (length (state_of l).rows ≤ i) ∷ ground 16 (length d < 4096) ∷ [])
+    → OnGrounds d (print_row_of l i d) (ground 1 (¬ (T (good_bytes l))) ∷ ground 18 (length (state_of l).rows ≤ i) ∷ ground 16 (length d < 4096) ∷ [])
 unfolding print_row_of
 row-answers l i d =
-    on-grounds least_room d (shown (row_lines (state_of l).policy (nth i (rows_in l))) d) (row_refusals l i d) _ refl (refl, bad-area l, (refl, no_row l i, (refl, short-buffer d, tt))) tt tt (row_within l i d)
+    of-written (on-grounds least_room d (shown (row_lines (state_of l).policy (nth i (rows_in l))) d) (row_refusals l i d) _ refl
+    (refl, bad-area l, (refl, no_row l i, (refl, short-buffer d, tt))) tt tt (row_within l i d))
 
 -- ---- one call behind the other
 
@@ -89,5 +94,6 @@ pub printing : Printing
 printing = record {
   open-answers = open-answers;
   row-answers = row-answers;
+  one-outcome = one-text;
   whole = λ l g o k d m. whole-text l (T_true (good_bytes l) g) o k d m;
 }

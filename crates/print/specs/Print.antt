@@ -5,7 +5,7 @@
 --     print_row_of l i d   the lines of the row of number i, in the area's policy state
 use Rattle.std.specs.Prelude.{not, List, [], ◌∷◌, ℕ, ltb, leb, length}
 use Rattle.refusals.specs.Refusals.{Refusal, refusal, refuse}
-use Rattle.written.specs.Print.{Print, kept, shown}
+pub use Rattle.written.specs.Print.{Print, kept, shown, Prints}
 use Rattle.area.specs.Layout.{good_bytes}
 use Rattle.area.specs.State.{state_of}
 use Rattle.table.specs.Table.{rows_in, nth}

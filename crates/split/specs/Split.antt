@@ -9,9 +9,11 @@
 --     lines_cut h ps       the lines of an input that comes in the pieces ps
 --     whole ps             the pieces, one behind the other
 --     said h               the request that a line says: one that is too long is unreadable
+--     before_lf bs         how many bytes stand before the first LF
 --     held_in              the line that the code's splitter keeps
 use Rattle.std.specs.Prelude.{Bool, true, false, cond, List, [], ◌∷◌, ◌++◌, ℕ, eqb, ltb, leb, length, take}
 use Rattle.text.specs.Ascii.{lf}
+pub use Rattle.text.specs.Lines.{before_lf}
 use Rattle.requests.specs.declared.Request.{Request}
 use Rattle.requests.specs.declared.Request.TheVariants.{Unreadable}
 use Rattle.requests.specs.Request.{most_bytes, request_of}

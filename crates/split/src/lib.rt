@@ -5,6 +5,7 @@ ghost use Rattle.std.specs.Prelude.{◌≡◌, ◌+◌, drop};
 ghost use Rattle.split.specs.Split.{none, is_none, held_all, said, held_in};
 
 use requests::{MOST_BYTES, Request, read_request};
+pub use text::line_end;
 
 // The line so far: the first `len` of `bytes`. A `len` above MOST_BYTES says that it is too long.
 #[derive(Clone, Copy)]
