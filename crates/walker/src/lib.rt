@@ -1,5 +1,5 @@
 // The walker: it keeps the lent area and the number of the next row, and hands out the rows one after another. The
-// functions over it are thin, and each is proved by hand; the work is in functions on the slice and the number.
+// functions over it are thin; the work is in functions on the slice and the number.
 #![tactic(auto)]
 
 ghost use Rattle.std.specs.Prelude.{◌≡◌};
