@@ -1,3 +1,2 @@
 -- What the proofs of `files` cite.
 pub mod Joins
-mod Loads

@@ -8,6 +8,7 @@ ghost use Rattle.std.specs.Prelude.{◌+◌, ◌≤◌, length};
 ghost use Rattle.files.specs.Messages.{message_room, Joined, Tellable};
 
 use outside::{say, say_why};
+use std::io::Error;
 use text::write_bytes;
 
 // The system takes names of so many bytes at most.
@@ -24,25 +25,25 @@ pub fn join(before: &[u8], name: &[u8], behind: &[u8], out: &mut [u8]) -> usize
 }
 
 // A name between two texts, to standard error.
-pub fn tell(before: &[u8], name: &[u8], behind: &[u8])
+pub fn tell<P: Print>(errors: &P, before: &[u8], name: &[u8], behind: &[u8])
     requires { length before.now + length name.now + length behind.now ≤ message_room }
 {
     let mut out = io::large_buffer();
     let n = join(before, name, behind, &mut out);
-    say(&out[..n]);
+    say(errors, &out[..n]);
 }
 
 // What the system refused, by its name, and why.
-pub fn tell_refused(name: &[u8])
+pub fn tell_refused<P: Print>(errors: &P, name: &[u8], why: Error)
     requires { Tellable name.now }
 {
     let mut out = io::large_buffer();
     let n = join(b"wickthrush: ", name, b"", &mut out);
-    say_why(&out[..n]);
+    say_why(errors, &out[..n], why);
 }
 
-pub fn tell_bad_area(name: &[u8])
+pub fn tell_bad_area<P: Print>(errors: &P, name: &[u8])
     requires { Tellable name.now }
 {
-    tell(b"wickthrush: 1 bad area: ", name, b"\n");
+    tell(errors, b"wickthrush: 1 bad area: ", name, b"\n");
 }

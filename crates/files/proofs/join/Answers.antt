@@ -1,5 +1,4 @@
 -- `files::join` meets its contract. Assumes nothing.
-use borrow.Author.Rules.{rules}
 use Rattle.files.proofs.Joins.{joined}
 use Rattle.files.proofs.join.Goals as goal
 
