@@ -18,11 +18,12 @@ ghost use Rattle.service.specs.PrintedOut.{handed_on, PrintedOut};
 ghost use Rattle.service.specs.FedAs.{FedAs};
 
 use area::AREA_BYTES;
-use check::same;
-use files::outside::{Loaded, argument, argument_count, load, say};
+use files::outside::{Loaded, argument, argument_count, load, no_reason, say};
 use files::{join, tell, tell_bad_area, tell_refused};
 use outside::{Made, make, remove, store};
 use print::{print_open, print_row};
+use std::io::{Error, Read, Write};
+use std::rt::HostRuntime;
 use stream::answer_input;
 use stream::outside::{Sent, write_first};
 use written::Written;
@@ -56,10 +57,10 @@ fn asked_for(count: usize, word: &[u8], name: &[u8]) -> Asked
     if MOST_NAME < name.len() {
         return Asked::BadName;
     }
-    if same(word, b"print") {
+    if word == b"print".as_slice() {
         return Asked::Print;
     }
-    if same(word, b"feed") {
+    if word == b"feed".as_slice() {
         return Asked::Feed;
     }
     Asked::Unknown
@@ -75,10 +76,11 @@ fn new_name(name: &[u8], out: &mut [u8]) -> usize
     join(b"", name, b".new", out)
 }
 
-fn tell_unfinished(name: &[u8])
+fn tell_unfinished(rt: &HostRuntime, name: &[u8])
     requires { Tellable name.now }
 {
     tell(
+        &rt.stderr(),
         b"wickthrush: ",
         name,
         b" is as it was: reading lines or writing answers failed\n",
@@ -107,10 +109,11 @@ fn handed_on(end: PrintEnd, w: Written, sent: Sent) -> PrintEnd
     }
 }
 
-// The O line, then row by row, each handed to the output at once, so that no line is cut where the output stops taking them.
-fn print_area(area: &[u8], out: &mut [u8]) -> PrintEnd
+// The O line, then row by row, each handed to the output at once, so that no line is cut where the output stops taking them;
+// and why it stopped.
+fn print_area<W: Write>(output: &mut W, area: &[u8], out: &mut [u8]) -> (PrintEnd, Error)
     requires { least_room ≤ length out.old }
-    ensures { PrintedOut area.now result }
+    ensures { PrintedOut area.now result.0 }
 {
     let w = print_open(area, out);
     let mut end = PrintEnd {
@@ -119,49 +122,51 @@ fn print_area(area: &[u8], out: &mut [u8]) -> PrintEnd
         bytes: 0,
     };
     if w.answer != 0 {
-        return end;
+        return (end, no_reason());
     }
-    let sent = write_first(w.bytes as usize, out);
+    let sent = write_first(output, w.bytes as usize, out);
+    let mut why = sent.why();
     end = handed_on(end, w, sent);
     let mut row: u64 = 0;
     while end.all {
         let w = print_row(area, row, out);
         if w.answer != 0 {
-            return end;
+            return (end, why);
         }
         row += 1;
-        let sent = write_first(w.bytes as usize, out);
+        let sent = write_first(output, w.bytes as usize, out);
+        why = sent.why();
         end = handed_on(end, w, sent);
     }
-    end
+    (end, why)
 }
 
 // What was loaded, printed.
-fn print_loaded(name: &[u8], area: &[u8], out: &mut [u8])
+fn print_loaded(rt: &HostRuntime, name: &[u8], area: &[u8], out: &mut [u8])
     requires { Named name.now × (least_room ≤ length out.old) }
 {
-    let end = print_area(area, out);
+    let (end, why) = print_area(&mut rt.stdout(), area, out);
     if end.answer != 0 {
-        tell_bad_area(name);
+        tell_bad_area(&rt.stderr(), name);
         return;
     }
     if !end.all {
-        tell_refused(b"standard output");
+        tell_refused(&rt.stderr(), b"standard output", why);
     }
 }
 
-fn print_stored(name: &[u8])
+fn print_stored(rt: &HostRuntime, name: &[u8])
     requires { Named name.now }
 {
     let mut area = [0u8; LOAD_BYTES];
     let mut out = io::large_buffer();
-    let loaded = load(name, &mut area);
+    let loaded = load(rt, name, &mut area);
     if loaded.missing() | loaded.failed() {
-        tell_refused(name);
+        tell_refused(&rt.stderr(), name, loaded.why());
         return;
     }
     let n = loaded.bytes();
-    print_loaded(name, &area[..n], &mut out);
+    print_loaded(rt, name, &area[..n], &mut out);
 }
 
 // ---- feed
@@ -183,11 +188,18 @@ struct Fed {
 }
 
 // The lines answered on the area. There is a new file to store it in by then, and no line or answer goes by that.
-fn feed_area(made: Made, area: &mut [u8], piece: &mut [u8], out: &mut [u8]) -> Fed
-    requires { (made.apart ≡ true) × Starts area.old × (1 ≤ length piece.old) × (most_text ≤ length out.old) }
+fn feed_area<R: Read, W: Write>(
+    made: &Made,
+    input: &mut R,
+    output: &mut W,
+    area: &mut [u8],
+    piece: &mut [u8],
+    out: &mut [u8],
+) -> Fed
+    requires { (made.now.apart ≡ true) × Starts area.old × (1 ≤ length piece.old) × (most_text ≤ length out.old) }
     ensures { FedAs area.old result area.new piece.new }
 {
-    let ended = answer_input(area, piece, out);
+    let ended = answer_input(input, output, area, piece, out);
     let done = ended.flow.done;
     Fed {
         done,
@@ -196,97 +208,113 @@ fn feed_area(made: Made, area: &mut [u8], piece: &mut [u8], out: &mut [u8]) -> F
 }
 
 // A good area stored.
-fn keep(made: Made, new: &[u8], name: &[u8], area: &[u8])
+fn keep(rt: &HostRuntime, mut made: Made, new: &[u8], name: &[u8], area: &[u8])
     requires { Ready made × Naming new.now name.now × T (good_bytes area.now) }
 {
-    let stored = store(made, area, new, name);
+    let stored = store(rt, &mut made, area, new, name);
     if stored.renamed() {
         return;
     }
     if stored.written() {
-        tell_refused(name);
+        tell_refused(&rt.stderr(), name, stored.why());
     } else {
-        tell_refused(new);
+        tell_refused(&rt.stderr(), new, stored.why());
     }
-    remove(made, new);
+    remove(rt, &made, new);
 }
 
 // The area stored, or the new file taken away again.
-fn settle(fed: Fed, made: Made, new: &[u8], name: &[u8], area: &[u8])
+fn settle(rt: &HostRuntime, fed: Fed, made: Made, new: &[u8], name: &[u8], area: &[u8])
     requires { Ready made × Naming new.now name.now × (fed.good ≡ true → T (good_bytes area.now)) }
 {
     if fed.good {
-        keep(made, new, name, area);
+        keep(rt, made, new, name, area);
         return;
     }
-    remove(made, new);
+    remove(rt, &made, new);
     if fed.done {
-        tell_bad_area(name);
+        tell_bad_area(&rt.stderr(), name);
     } else {
-        tell_unfinished(name);
+        tell_unfinished(rt, name);
     }
 }
 
 // The lines answered, with a new file to store the area in.
-fn feed_by(new: &[u8], name: &[u8], area: &mut [u8])
+fn feed_by(rt: &HostRuntime, new: &[u8], name: &[u8], area: &mut [u8])
     requires { Naming new.now name.now × Starts area.old }
 {
-    let made = make(new);
+    let made = make(rt, new);
     if !made.made() {
-        tell_refused(new);
+        tell_refused(&rt.stderr(), new, made.why());
         return;
     }
     if !made.apart() {
-        remove(made, new);
-        say(b"wickthrush: standard input, output and error have to be open\n");
+        remove(rt, &made, new);
+        say(
+            &rt.stderr(),
+            b"wickthrush: standard input, output and error have to be open\n",
+        );
         return;
     }
     let mut piece = io::large_buffer();
     let mut out = io::large_buffer();
-    let fed = feed_area(made, area, &mut piece, &mut out);
-    settle(fed, made, new, name, area);
+    let fed = feed_area(
+        &made,
+        &mut rt.stdin(),
+        &mut rt.stdout(),
+        area,
+        &mut piece,
+        &mut out,
+    );
+    settle(rt, fed, made, new, name, area);
 }
 
 // What was loaded, fed, where lines may be answered on it.
-fn feed_loaded(name: &[u8], loaded: Loaded, area: &mut [u8])
+fn feed_loaded(rt: &HostRuntime, name: &[u8], loaded: Loaded, area: &mut [u8])
     requires { Named name.now × LoadedInto (replicate load_bytes 0) loaded area.old × (length area.old ≡ load_bytes) }
 {
     if !may_start(loaded, area) {
-        tell_bad_area(name);
+        tell_bad_area(&rt.stderr(), name);
         return;
     }
     let mut new = io::buffer();
     let n = new_name(name, &mut new);
-    feed_by(&new[..n], name, &mut area[..AREA_BYTES]);
+    feed_by(rt, &new[..n], name, &mut area[..AREA_BYTES]);
 }
 
-fn feed_stored(name: &[u8])
+fn feed_stored(rt: &HostRuntime, name: &[u8])
     requires { Named name.now }
 {
     let mut area = [0u8; LOAD_BYTES];
-    let loaded = load(name, &mut area);
+    let loaded = load(rt, name, &mut area);
     if loaded.failed() {
-        tell_refused(name);
+        tell_refused(&rt.stderr(), name, loaded.why());
         return;
     }
-    feed_loaded(name, loaded, &mut area);
+    feed_loaded(rt, name, loaded, &mut area);
 }
 
 // ---- the program
 
-fn serve(count: usize, word: &[u8], name: &[u8]) {
+fn serve(rt: &HostRuntime, count: usize, word: &[u8], name: &[u8]) {
     match asked_for(count, word, name) {
-        Asked::Print => print_stored(name),
-        Asked::Feed => feed_stored(name),
-        Asked::BadName => say(b"wickthrush: the name of an area has 1 to 4091 bytes\n"),
-        Asked::Unknown => say(b"wickthrush: usage: print AREA, or feed AREA < LINES\n"),
+        Asked::Print => print_stored(rt, name),
+        Asked::Feed => feed_stored(rt, name),
+        Asked::BadName => say(
+            &rt.stderr(),
+            b"wickthrush: the name of an area has 1 to 4091 bytes\n",
+        ),
+        Asked::Unknown => say(
+            &rt.stderr(),
+            b"wickthrush: usage: print AREA, or feed AREA < LINES\n",
+        ),
     }
 }
 
-fn main() {
+fn main(rt: HostRuntime) {
     let mut word = io::buffer();
     let mut name = io::buffer();
-    let w = argument(1, &mut word);
-    let n = argument(2, &mut name);
-    serve(argument_count(), &word[..w], &name[..n]);
+    let w = argument(&rt, 1, &mut word);
+    let n = argument(&rt, 2, &mut name);
+    serve(&rt, argument_count(&rt), &word[..w], &name[..n]);
 }

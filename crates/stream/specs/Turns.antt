@@ -1,4 +1,5 @@
 -- What each part of a turn of the loop does.
+--     Moved n z        what a read that is lent n bytes may answer: -1, or how many bytes it brought, at most n
 --     unread f bs      what is not read yet of the piece bs
 --     Within f bs      the places from which and up to which it is to be read lie in the piece
 --     Busy f bs        a turn is to be taken, on a piece of a byte at least: nothing failed, and not all is answered
@@ -12,13 +13,16 @@
 --     PieceAnswered    the unread part was handed to `advance`, and what that wrote to a write with some answer
 --     Turned           what is unread is answered; idle, a piece is read; behind the end of the input none is
 use Rattle.std.specs.Prelude.{◌≡◌, Bool, true, false, not, List, ℕ, zero, suc, ◌+◌, ◌-◌, ◌≤◌, ℤ, pos, negsuc, length, take, drop, set}
-use Rattle.libc.specs.Io.{Moved}
 use Rattle.text.specs.Ascii.{lf}
 use Rattle.split.specs.Split.{is_none, held_in}
 use Rattle.lines.specs.Run.{Place, place_of, Advanced}
 use Rattle.lines.specs.Program.{idle}
 use Rattle.lines.specs.declared.Progress.{Progress}
 use Rattle.stream.specs.declared.Flow.{Flow}
+
+abbrev pub Moved : ℕ → ℤ → Type 0
+Moved n (pos k) = k ≤ n
+Moved n (negsuc k) = k ≡ 0
 
 abbrev pub unread : Flow → List ℕ → List ℕ
 unread f bs = take (f.to - f.from) (drop f.from bs)

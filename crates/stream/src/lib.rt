@@ -1,4 +1,4 @@
-// Standard input answered to standard output, on whatever area is lent. What is written for which input is proved in `lines`,
+// An input answered to an output, standard ones in the programs, on whatever area is lent. What is written for which input is proved in `lines`,
 // and here that the loop writes it. To be believed is `outside`, where alone something is read or written, and the loop
 // of `answer_input`: each turn takes the flow of the one before.
 #![tactic(auto)]
@@ -6,15 +6,15 @@
 pub mod outside;
 
 ghost use Rattle.std.specs.Prelude.{◌≡◌, ◌&&◌, ◌+◌, ◌≤◌, leb, length};
-ghost use Rattle.libc.specs.Io.{Moved};
 ghost use Rattle.area.specs.Layout.{most_rows};
 ghost use Rattle.answers.specs.Texts.{most_text};
-ghost use Rattle.stream.specs.Turns.{fed, failed, done, Closed, AfterRead, after_write};
+ghost use Rattle.stream.specs.Turns.{Moved, fed, failed, done, Closed, AfterRead, after_write};
 ghost use Rattle.stream.specs.Moves.{Ran};
 
 use area::MOST_ROWS;
 use lines::{Progress, Run, start};
 use outside::{Got, Sent, turn};
+use std::io::{Read, Write};
 
 // The run; the places of the piece from which and up to which it is to be read; whether a last line without LF has got one;
 // whether a read or a write failed, and whether all is answered.
@@ -135,7 +135,13 @@ pub struct Ended {
 
 // All of the input, up to a failure. A proved loop has to end, so this one counts its turns up to a number that no run comes
 // to.
-pub fn answer_input(area: &mut [u8], piece: &mut [u8], out: &mut [u8]) -> Ended
+pub fn answer_input<R: Read, W: Write>(
+    input: &mut R,
+    output: &mut W,
+    area: &mut [u8],
+    piece: &mut [u8],
+    out: &mut [u8],
+) -> Ended
     requires { (1 ≤ length piece.old) × (most_text ≤ length out.old) }
     ensures { Ran area.old result.turns result.flow area.new piece.new }
 {
@@ -150,7 +156,7 @@ pub fn answer_input(area: &mut [u8], piece: &mut [u8], out: &mut [u8]) -> Ended
     let mut turns: u64 = 0;
     while turns < u64::MAX && !(flow.done | flow.failed) {
         turns += 1;
-        flow = turn(flow, area, piece, out);
+        flow = turn(input, output, flow, area, piece, out);
     }
     Ended { flow, turns }
 }

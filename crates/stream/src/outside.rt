@@ -2,15 +2,11 @@
 // lines are to be believed: a piece is read once and handed on as it was read, what `advance` wrote is written once, and the
 // answer of each call is kept as it is. Nothing else, in this crate or another, can make a `Got` or a `Sent`.
 ghost use Rattle.std.specs.Prelude.{◌≡◌, ◌≤◌, length};
-ghost use Rattle.libc.specs.Io.{Moved};
-ghost use Rattle.stream.specs.Turns.{Within, Busy, PieceRead, PieceAnswered, Turned};
+ghost use Rattle.stream.specs.Turns.{Moved, Within, Busy, PieceRead, PieceAnswered, Turned};
 
 use super::{Flow, after_read, after_write, close, is_idle};
 use lines::advance;
-
-const INPUT: i32 = 0;
-
-const OUTPUT: i32 = 1;
+use std::io::{Error, Read, Write};
 
 // What a read of the input answered: -1, or how many bytes it put at the start of the piece, none at the end of the input.
 #[derive(Clone, Copy)]
@@ -26,19 +22,21 @@ impl Got {
     }
 }
 
-fn read(piece: &mut [u8]) -> Got
+fn read<R: Read>(input: &mut R, piece: &mut [u8]) -> Got
     ensures { Moved (length piece.old) result.answer }
 {
-    Got {
-        answer: libc::read(INPUT, piece),
+    match input.read(piece) {
+        Ok(n) => Got { answer: n as isize },
+        Err(_) => Got { answer: -1 },
     }
 }
 
-// How many bytes were handed to the output, and whether it took them all.
+// How many bytes were handed to the output, and whether it took them all; where it did not, why.
 #[derive(Clone, Copy)]
 pub struct Sent {
     bytes: usize,
     all: bool,
+    why: Error,
 }
 
 impl Sent {
@@ -47,31 +45,52 @@ impl Sent {
     {
         self.all
     }
+
+    pub fn why(self) -> Error
+        ensures { result ≡ self.why }
+    {
+        self.why
+    }
 }
 
 // The first n bytes of the buffer, handed to the output.
-pub fn write_first(n: usize, out: &[u8]) -> Sent
+pub fn write_first<W: Write>(output: &mut W, n: usize, out: &[u8]) -> Sent
     requires { n ≤ length out.now }
     ensures { result.bytes ≡ n }
 {
     let part = &out[..n];
-    Sent {
-        bytes: part.len(),
-        all: io::write_all(OUTPUT, part),
+    let bytes = part.len();
+    match output.write_all(part) {
+        Ok(()) => Sent {
+            bytes,
+            all: true,
+            why: Error::from_raw_os_error(0),
+        },
+        Err(why) => Sent {
+            bytes,
+            all: false,
+            why,
+        },
     }
 }
 
 // The next piece of the input.
-fn read_piece(flow: Flow, piece: &mut [u8]) -> Flow
+fn read_piece<R: Read>(input: &mut R, flow: Flow, piece: &mut [u8]) -> Flow
     requires { 1 ≤ length piece.old }
     ensures { PieceRead flow piece.old result piece.new }
 {
-    let got = read(piece);
+    let got = read(input, piece);
     after_read(flow, piece, got)
 }
 
 // What is left of the piece answered, as far as the buffer has room, and what was written into the buffer handed to the output.
-fn answer_piece(flow: Flow, area: &mut [u8], piece: &[u8], out: &mut [u8]) -> Flow
+fn answer_piece<W: Write>(
+    output: &mut W,
+    flow: Flow,
+    area: &mut [u8],
+    piece: &[u8],
+    out: &mut [u8],
+) -> Flow
     requires { Within flow piece.now }
     ensures { PieceAnswered flow area.old piece.now out.old result area.new out.new }
 {
@@ -79,20 +98,27 @@ fn answer_piece(flow: Flow, area: &mut [u8], piece: &[u8], out: &mut [u8]) -> Fl
     let from = flow.from;
     let to = flow.to;
     let p = advance(run, area, &piece[from..to], out);
-    let sent = write_first(p.written, out);
+    let sent = write_first(output, p.written, out);
     after_write(flow, p, sent)
 }
 
 // One turn: what is unread is answered; idle, the next piece is read; behind the end of the input none is.
-pub fn turn(flow: Flow, area: &mut [u8], piece: &mut [u8], out: &mut [u8]) -> Flow
+pub fn turn<R: Read, W: Write>(
+    input: &mut R,
+    output: &mut W,
+    flow: Flow,
+    area: &mut [u8],
+    piece: &mut [u8],
+    out: &mut [u8],
+) -> Flow
     requires { Busy flow piece.old }
     ensures { Turned flow area.old piece.old out.old result area.new piece.new out.new }
 {
     if !is_idle(flow) {
-        return answer_piece(flow, area, piece, out);
+        return answer_piece(output, flow, area, piece, out);
     }
     if flow.closed {
         return close(flow, piece);
     }
-    read_piece(flow, piece)
+    read_piece(input, flow, piece)
 }

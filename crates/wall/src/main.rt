@@ -13,13 +13,13 @@ ghost use Rattle.wall.specs.Standard.{standard_table};
 ghost use Rattle.wall.specs.Shown.{permission_in, session_in, shown_of, Shows, Refuses};
 
 use area::AREA_BYTES;
-use check::same;
 use files::outside::{argument, argument_count, load, read_input, say};
 use files::{MOST_PATH, tell, tell_bad_area, tell_refused};
 use listing::{MOST_TABLE, make_table};
 use meaning::LAST_PERMISSION;
 use names::{CONTENTS_BYTES, MOST_NAME};
 use sheet::sheet;
+use std::rt::HostRuntime;
 use stream::outside::write_first;
 use text::{NumberField, SetField, read_number, read_set, write_number};
 
@@ -46,13 +46,13 @@ enum Asked {
 fn asked_for(count: usize, word: &[u8]) -> Asked
     ensures { Chosen count word.now result }
 {
-    if same(word, b"names") {
+    if word == b"names".as_slice() {
         if count == 2 {
             return Asked::Names;
         }
         return Asked::Unknown;
     }
-    if !same(word, b"sheet") {
+    if word != b"sheet".as_slice() {
         return Asked::Unknown;
     }
     if count == 5 {
@@ -157,37 +157,42 @@ fn show<'a>(
 
 // ---- messages
 
-fn tell_bad_table(what: &[u8])
+fn tell_bad_table(rt: &HostRuntime, what: &[u8])
     requires { Tellable what.now }
 {
-    tell(b"wickthrush: 17 bad name table: ", what, b"\n");
+    tell(
+        &rt.stderr(),
+        b"wickthrush: 17 bad name table: ",
+        what,
+        b"\n",
+    );
 }
 
-fn tell_unreadable(text: &[u8])
+fn tell_unreadable(rt: &HostRuntime, text: &[u8])
     requires { Tellable text.now }
 {
-    tell(b"wickthrush: 9 unreadable: ", text, b"\n");
+    tell(&rt.stderr(), b"wickthrush: 9 unreadable: ", text, b"\n");
 }
 
 // Why there is no sheet, by the number of its answer.
-fn tell_refusal(answer: u32, area: &[u8], table: &[u8], set: &[u8])
+fn tell_refusal(rt: &HostRuntime, answer: u32, area: &[u8], table: &[u8], set: &[u8])
     requires { Refuses answer × Tellable area.now × Tellable table.now × Tellable set.now }
 {
     match answer {
-        1 => tell_bad_area(area),
-        17 => tell_bad_table(table),
-        3 => say(b"wickthrush: 3 no permission\n"),
-        _ => tell(b"wickthrush: 4 unknown role: ", set, b"\n"),
+        1 => tell_bad_area(&rt.stderr(), area),
+        17 => tell_bad_table(rt, table),
+        3 => say(&rt.stderr(), b"wickthrush: 3 no permission\n"),
+        _ => tell(&rt.stderr(), b"wickthrush: 4 unknown role: ", set, b"\n"),
     }
 }
 
 // The first n bytes of the buffer, to standard output.
-fn hand_out(n: usize, out: &[u8])
+fn hand_out(rt: &HostRuntime, n: usize, out: &[u8])
     requires { n ≤ length out.now }
 {
-    let sent = write_first(n, out);
+    let sent = write_first(&mut rt.stdout(), n, out);
     if !sent.all() {
-        tell_refused(b"standard output");
+        tell_refused(&rt.stderr(), b"standard output", sent.why());
     }
 }
 
@@ -200,21 +205,24 @@ struct Fetched {
     done: bool,
 }
 
-fn fetch(name: &[u8], buf: &mut [u8]) -> Fetched
+fn fetch(rt: &HostRuntime, name: &[u8], buf: &mut [u8]) -> Fetched
     requires { Tellable name.now }
     ensures { IsPrefixLen result.bytes buf.new }
 {
     if name.len() == 0 {
-        say(b"wickthrush: the name of a file has 1 to 4095 bytes\n");
+        say(
+            &rt.stderr(),
+            b"wickthrush: the name of a file has 1 to 4095 bytes\n",
+        );
         return Fetched {
             bytes: 0,
             done: false,
         };
     }
-    let loaded = load(name, buf);
+    let loaded = load(rt, name, buf);
     let done = !(loaded.missing() | loaded.failed());
     if !done {
-        tell_refused(name);
+        tell_refused(&rt.stderr(), name, loaded.why());
     }
     Fetched {
         bytes: loaded.bytes(),
@@ -225,7 +233,15 @@ fn fetch(name: &[u8], buf: &mut [u8]) -> Fetched
 // ---- sheet
 
 // The sheet to standard output, or why there is none.
-fn print_sheet(name: &[u8], area: &[u8], table: &[u8], works: &[u8], permission: &[u8], set: &[u8])
+fn print_sheet(
+    rt: &HostRuntime,
+    name: &[u8],
+    area: &[u8],
+    table: &[u8],
+    works: &[u8],
+    permission: &[u8],
+    set: &[u8],
+)
     requires { Tellable name.now × Tellable table.now × Tellable permission.now × Tellable set.now }
 {
     let mut standard = [0u8; MOST_TABLE];
@@ -234,99 +250,107 @@ fn print_sheet(name: &[u8], area: &[u8], table: &[u8], works: &[u8], permission:
     match show(area, works, &standard[..n], permission, set, &mut out) {
         Shown::Told { answer, bytes } => {
             if answer == 0 {
-                hand_out(bytes as usize, &out);
+                hand_out(rt, bytes as usize, &out);
             } else {
-                tell_refusal(answer, name, table, set);
+                tell_refusal(rt, answer, name, table, set);
             }
         }
-        Shown::BadPermission => tell_unreadable(permission),
-        Shown::BadSet => tell_unreadable(set),
+        Shown::BadPermission => tell_unreadable(rt, permission),
+        Shown::BadSet => tell_unreadable(rt, set),
     }
 }
 
 // What was loaded, with the arguments that say what is to be shown of it.
-fn show_loaded(name: &[u8], area: &[u8], table: &[u8], works: &[u8])
+fn show_loaded(rt: &HostRuntime, name: &[u8], area: &[u8], table: &[u8], works: &[u8])
     requires { Tellable name.now × Tellable table.now }
 {
     let mut permission = [0u8; MOST_PATH];
-    let p = argument(3, &mut permission);
+    let p = argument(rt, 3, &mut permission);
     let mut set = [0u8; MOST_PATH];
-    let s = argument(4, &mut set);
-    print_sheet(name, area, table, works, &permission[..p], &set[..s]);
+    let s = argument(rt, 4, &mut set);
+    print_sheet(rt, name, area, table, works, &permission[..p], &set[..s]);
 }
 
 // With the works' own names.
-fn show_named(name: &[u8], area: &[u8])
+fn show_named(rt: &HostRuntime, name: &[u8], area: &[u8])
     requires { Tellable name.now }
 {
     let mut table = [0u8; MOST_PATH];
-    let t = argument(5, &mut table);
+    let t = argument(rt, 5, &mut table);
     let mut works = [0u8; TABLE_BYTES];
-    let fetched = fetch(&table[..t], &mut works);
+    let fetched = fetch(rt, &table[..t], &mut works);
     if fetched.done {
         let w = fetched.bytes;
-        show_loaded(name, area, &table[..t], &works[..w]);
+        show_loaded(rt, name, area, &table[..t], &works[..w]);
     }
 }
 
-fn show_stored(own: bool) {
+fn show_stored(rt: &HostRuntime, own: bool) {
     let mut name = [0u8; MOST_PATH];
-    let n = argument(2, &mut name);
+    let n = argument(rt, 2, &mut name);
     let mut area = [0u8; LOAD_BYTES];
-    let fetched = fetch(&name[..n], &mut area);
+    let fetched = fetch(rt, &name[..n], &mut area);
     if !fetched.done {
         return;
     }
     let a = fetched.bytes;
     if own {
-        show_named(&name[..n], &area[..a]);
+        show_named(rt, &name[..n], &area[..a]);
         return;
     }
     let none = [0u8; CONTENTS_BYTES];
-    show_loaded(&name[..n], &area[..a], b"", &none);
+    show_loaded(rt, &name[..n], &area[..a], b"", &none);
 }
 
 // ---- names
 
-fn tell_bad_line(line: u64) {
+fn tell_bad_line(rt: &HostRuntime, line: u64) {
     let mut digits = [0u8; MOST_DIGITS];
     let n = write_number(&mut digits, 0, line);
-    tell(b"wickthrush: 17 bad name table: line ", &digits[..n], b"\n");
+    tell(
+        &rt.stderr(),
+        b"wickthrush: 17 bad name table: line ",
+        &digits[..n],
+        b"\n",
+    );
 }
 
 // A list that is taken has at most 2,304 bytes (`taken-short`), so of one that is longer than the buffer a line within is refused.
-fn make_names() {
+fn make_names(rt: &HostRuntime) {
     let mut list = io::buffer();
-    let loaded = read_input(&mut list);
+    let loaded = read_input(&mut rt.stdin(), &mut list);
     if loaded.failed() {
-        tell_refused(b"standard input");
+        tell_refused(&rt.stderr(), b"standard input", loaded.why());
         return;
     }
     let n = loaded.bytes();
     let mut table = [0u8; MOST_TABLE];
     let listed = make_table(&list[..n], &mut table);
     if listed.line != 0 {
-        tell_bad_line(listed.line);
+        tell_bad_line(rt, listed.line);
         return;
     }
-    hand_out(listed.bytes, &table);
+    hand_out(rt, listed.bytes, &table);
 }
 
 // ---- the program
 
-fn serve(count: usize, word: &[u8]) {
+fn serve(rt: &HostRuntime, count: usize, word: &[u8]) {
     match asked_for(count, word) {
-        Asked::Sheet => show_stored(false),
-        Asked::SheetNamed => show_stored(true),
-        Asked::Names => make_names(),
+        Asked::Sheet => show_stored(rt, false),
+        Asked::SheetNamed => show_stored(rt, true),
+        Asked::Names => make_names(rt),
         Asked::Unknown => {
-            say(b"wickthrush: usage: sheet AREA PERMISSION SET [NAMES], or names < LIST > NAMES\n")
+            say(
+                &rt.stderr(),
+                b"wickthrush: usage: sheet AREA PERMISSION SET [NAMES], or names < LIST > NAMES\n",
+            )
         }
     }
 }
 
-fn main() {
+fn main(rt: HostRuntime) {
     let mut word = [0u8; MOST_PATH];
-    let w = argument(1, &mut word);
-    serve(argument_count(), &word[..w]);
+    let w = argument(&rt, 1, &mut word);
+    serve(&rt, argument_count(&rt), &word[..w]);
 }
