@@ -7,7 +7,6 @@ use native.Mathlib.Omega.{arith}
 use lib.IntN.{ℤ, pos, negsuc}
 use lib.ListN.{length, take, drop, set, length-set, length-take}
 use Rattle.words.proofs.Runs.{drop-run}
-use Rattle.libc.specs.Io.{Moved}
 use Rattle.text.specs.Ascii.{lf}
 use Rattle.split.specs.Split.{is_none, held_in}
 use Rattle.answers.specs.Texts.{most_text}
@@ -16,7 +15,7 @@ use Rattle.lines.specs.Program.{Starts, idle}
 use Rattle.lines.specs.declared.Run.{Run}
 use Rattle.lines.proofs.Program.{idle-read}
 use Rattle.stream.specs.declared.Flow.{Flow}
-use Rattle.stream.specs.Turns.{unread, Within, Busy, place_in, fed, failed, done, Closed, AfterRead, PieceRead, PieceAnswered, Turned}
+use Rattle.stream.specs.Turns.{Moved, unread, Within, Busy, place_in, fed, failed, done, Closed, AfterRead, PieceRead, PieceAnswered, Turned}
 use Rattle.stream.specs.Moves.{most_turns, Came, begins, writes, reads, closes, Ran}
 use Rattle.stream.proofs.Came.{came-so-far, came-all, came-left}
 
