@@ -1,4 +1,3 @@
 -- What the proofs of `service` cite.
-mod Choices
 mod Printing
 mod Feeding

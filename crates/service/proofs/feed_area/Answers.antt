@@ -1,11 +1,9 @@
 -- `service::feed_area` meets its contract. Assumes nothing.
-use borrow.Author.Rules.{rules}
-use mathlib.Core.Path.{refl, ap}
-use mathlib.Core.Bool.{Bool, ◌&&◌}
+use Rattle.std.proofs.Common.{◌&&◌, Bool, refl, ap}
 use Rattle.service.proofs.feed_area.Goals as goal
 
 pub returns : goal.returns
-returns c =
+returns g c =
     let a = c.answer_input-ended in
     record {
       turns = a.result.turns;
