@@ -1,5 +1,4 @@
 -- What the proofs of `wall` cite, and its theorem.
-mod Choices
 mod Arguments
 mod Showing
 mod Sheets

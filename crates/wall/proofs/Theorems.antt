@@ -1,8 +1,8 @@
 -- The standard names. Assumes nothing.
-use mathlib.Core.Path.{◌≡◌, refl, sym, ◌∙◌}
+use mathlib.Core.Path.{◌≡◌, refl}
 use mathlib.Core.Bool.{Bool, true, false, not}
 use mathlib.Core.List.{List, []}
-use mathlib.Core.Logic.{◌⊎◌, inl, inr, ◌≢◌}
+use mathlib.Core.Logic.{◌⊎◌, inl, inr}
 use Prim.Native.Nat.{ℕ}
 use native.Mathlib.Omega.{arith}
 use lib.Dec.{T}
@@ -10,7 +10,7 @@ use Rattle.text.specs.Number.{is_digit, digit_next, next_is, read_more, read_num
 use Rattle.names.specs.Names.{length_of, good_table}
 use Rattle.names.specs.Naming.{BadTable}
 use Rattle.names.proofs.Theorems.{naming}
-use Rattle.listing.specs.Listing.{in_front, lines_of, is_name, name_behind, read_line, named, takes, taken, table_from, no_names, listing}
+use Rattle.listing.specs.Listing.{in_front, list_lines, is_name, name_behind, read_line, named, takes, taken, table_from, no_names, listing}
 use Rattle.listing.proofs.Theorems.{tables-made}
 use Rattle.sheet.specs.Sheet.{sheet_of}
 use Rattle.sheet.proofs.Theorems.{sheets}
@@ -19,7 +19,7 @@ use Rattle.wall.specs.BuiltIn.{BuiltIn}
 
 -- computed, line by line
 none-refused : (listing standard_list).line ≡ 0
-unfolding standard_list is_digit digit_next next_is read_more read_number length_of in_front lines_of is_name name_behind read_line named takes taken table_from listing
+unfolding standard_list is_digit digit_next next_is read_more read_number length_of in_front list_lines is_name name_behind read_line named takes taken table_from listing
 none-refused = refl
 
 standard-good : T (good_table standard_table)
@@ -27,7 +27,7 @@ unfolding standard_table
 standard-good = tables-made.good standard_list
 
 none-good : T (good_table no_names)
-unfolding lines_of table_from listing
+unfolding list_lines table_from listing
 none-good = tables-made.good []
 
 -- a table is good or bad

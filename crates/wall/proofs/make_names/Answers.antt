@@ -1,5 +1,4 @@
 -- `wall::make_names` meets its contract. Assumes nothing.
-use borrow.Author.Rules.{rules}
 use native.Mathlib.Omega.{arith}
 use Rattle.listing.proofs.Theorems.{made_inside}
 use Rattle.wall.proofs.make_names.Goals as goal

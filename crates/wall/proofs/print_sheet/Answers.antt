@@ -1,5 +1,4 @@
 -- `wall::print_sheet` meets its contract. Assumes nothing.
-use borrow.Author.Rules.{rules}
 use native.Mathlib.Omega.{arith}
 use Rattle.wall.proofs.Sheets.{sheet-inside, sheet-refused}
 use Rattle.wall.proofs.print_sheet.Goals as goal

@@ -1,5 +1,4 @@
 -- `wall::read_permission` meets its contract. Assumes nothing.
-use borrow.Author.Rules.{rules}
 use mathlib.Core.Path.{sym, ◌∙◌}
 use Rattle.wall.proofs.Arguments.{no-permission, permission-cut, permission-whole}
 use Rattle.wall.proofs.read_permission.Goals as goal

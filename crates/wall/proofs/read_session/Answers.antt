@@ -1,5 +1,4 @@
 -- `wall::read_session` meets its contract. Assumes nothing.
-use borrow.Author.Rules.{rules}
 use mathlib.Core.Path.{sym, ◌∙◌}
 use Rattle.wall.proofs.Arguments.{no-session, session-cut, session-whole}
 use Rattle.wall.proofs.read_session.Goals as goal

@@ -1,11 +1,6 @@
 -- `wall::show` meets its contract. Assumes nothing.
-use borrow.Author.Rules.{rules}
-use mathlib.Core.Path.{◌≡◌, sym, ◌∙◌}
+use mathlib.Core.Path.{sym, ◌∙◌}
 use native.Mathlib.Omega.{arith}
-use Rattle.text.specs.Field.{number_field, set_field}
-use Rattle.text.specs.declared.NumberField.TheVariants as number
-use Rattle.text.specs.declared.SetField.TheVariants as set
-use Rattle.wall.specs.Shown.{permission_in, session_in}
 use Rattle.wall.proofs.Arguments.{permission-small}
 use Rattle.wall.proofs.Showing.{permission-unread, set-unread, sheet-shown}
 use Rattle.wall.proofs.show.Goals as goal

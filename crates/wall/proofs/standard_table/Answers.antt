@@ -1,5 +1,4 @@
 -- `wall::standard_table` meets its contract: the list in its code is the one of the definition. Assumes nothing.
-use borrow.Author.Rules.{rules}
 use Rattle.io.proofs.Counting.{prefix_len_of_le}
 use Rattle.listing.proofs.Theorems.{made_inside, made-first}
 use Rattle.wall.specs.Standard.{standard_list, standard_table}
