@@ -8,12 +8,10 @@ mod outside;
 ghost use Rattle.std.specs.Prelude.{◌≡◌, true, ◌||◌, ◌+◌, ◌*◌, ◌≤◌, T, length, replicate, take};
 ghost use Rattle.io.specs.Counts.{IsPrefixLen};
 ghost use Rattle.area.specs.Layout.{most_rows, good_bytes};
-ghost use Rattle.files.specs.Messages.{Tellable};
-ghost use Rattle.files.specs.Loading.{LoadedInto};
 ghost use Rattle.answers.specs.Texts.{most_text};
 ghost use Rattle.print.specs.Print.{least_room};
-ghost use Rattle.service.specs.Names.{new_name, Named, Chosen};
-ghost use Rattle.service.specs.Stored.{load_bytes, Starts, Ready, Naming};
+ghost use Rattle.service.specs.Names.{new_name, Named, Chosen, Tellable};
+ghost use Rattle.service.specs.Stored.{load_bytes, LoadedInto, Starts, Ready, Naming};
 ghost use Rattle.service.specs.PrintedOut.{handed_on, PrintedOut};
 ghost use Rattle.service.specs.FedAs.{FedAs};
 
