@@ -21,7 +21,6 @@ use files::{join, tell, tell_bad_area, tell_refused};
 use outside::{Made, make, remove, store};
 use print::{print_open, print_row};
 use std::io::{Error, Read, Write};
-use std::rt::HostRuntime;
 use stream::answer_input;
 use stream::outside::{Sent, write_first};
 use written::Written;

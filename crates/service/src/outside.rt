@@ -11,7 +11,6 @@ use std::fs;
 use std::fs::{File, OpenOptions};
 use std::io::{Error, Result, Write};
 use std::os::fd::AsRawFd;
-use std::rt::HostRuntime;
 
 // The descriptor of standard error, the last of the three that lines, answers and messages go by.
 const LAST_STANDARD: i32 = 2;

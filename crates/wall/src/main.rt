@@ -19,7 +19,6 @@ use listing::{MOST_TABLE, make_table};
 use meaning::LAST_PERMISSION;
 use names::{CONTENTS_BYTES, MOST_NAME};
 use sheet::sheet;
-use std::rt::HostRuntime;
 use stream::outside::write_first;
 use text::{NumberField, SetField, read_number, read_set, write_number};
 
