@@ -19,14 +19,13 @@ calls = $(shell sed -n '/^\.SH NAME/{n;s/ .-.*//;s/,//gp;}' man/wickthrush.3)
 # a folder as the pkg-config file names it: by its prefix where it lies there
 in_prefix = $(patsubst $(PREFIX)/%,$${prefix}/%,$(1))
 
-# The archive is x86-64: elsewhere the example needs a cross compiler, and the kit's emulator to run.
+# The archive is x86-64: elsewhere the example needs a cross compiler, and an emulator to run.
 ifeq ($(shell uname -m),x86_64)
 link = $(CC)
 run =
 else
 link = x86_64-linux-gnu-gcc -static
-kit = $(or $(RATTLE_HOME),$(abspath $(dir $(realpath $(shell command -v rt)))..))
-run = $(kit)/on/$(shell uname -m)/toolchain/bin/qemu-x86_64
+run = qemu-x86_64
 endif
 
 .PHONY: help lib names install uninstall example check test clean FORCE
@@ -102,4 +101,4 @@ check test:
 # not under a build
 clean:
 	@flock -n crates.txt true || echo 'make: a build is under way here; waiting for it' >&2
-	flock crates.txt rm -rf target
+	flock crates.txt rm -rf target crates/*/out

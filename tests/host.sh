@@ -47,10 +47,10 @@ has_compiler() {
     command -v "$1" >/dev/null && [ -e "$("$1" -print-file-name=libc.a)" ]
 }
 
-# Archives and programs are x86-64: elsewhere a cross compiler links them, and the kit's emulator runs the result.
+# Archives and programs are x86-64: elsewhere a cross compiler links them, and an emulator runs the result.
 rt=$(command -v rt) || stop "rt is not on the path"
 kit=${RATTLE_HOME:-$(dirname "$(dirname "$(readlink -f "$rt")")")}
-tools=$kit/on/$(uname -m)/toolchain
+tools=$kit/toolchain
 if [ "$(uname -m)" = x86_64 ]; then
     compiler=gcc
     has_compiler "$compiler" || packages gcc libc6-dev
@@ -58,8 +58,8 @@ if [ "$(uname -m)" = x86_64 ]; then
 else
     compiler=x86_64-linux-gnu-gcc
     has_compiler "$compiler" || packages gcc-x86-64-linux-gnu libc6-dev-amd64-cross
-    runner=("$tools/bin/qemu-x86_64")
-    [ -x "${runner[0]}" ] || stop "the kit has no emulator"
+    runner=(qemu-x86_64)
+    command -v "${runner[0]}" >/dev/null || packages qemu-user
 fi
 
 # Whether the machine runs a program of rt with its own C library.
@@ -68,7 +68,7 @@ runs_by_itself() {
     [ "$(uname -m)" = x86_64 ] && complaint=$(/lib64/ld-linux-x86-64.so.2 --list "$1" 2>&1 >/dev/null) && [ -z "$complaint" ]
 }
 
-# Runs a command that builds in the folder target, and that is not tools/build: it takes the same lock, so one at a time.
+# Runs a command that builds in this tree, and that is not tools/build: it takes the same lock, so one at a time.
 alone() {
     local lock status
     exec {lock}<"$root/crates.txt" && flock "$lock" || return
@@ -86,7 +86,7 @@ build_archive() {
 }
 
 make_archive() {
-    (cd "$root" && "$rt" staticlib "$1") && cp "$root/target/staticlib/lib$1.a" "$archive"
+    (cd "$root/crates/$1" && "$rt" lib) && cp "$root/crates/$1/out/lib$1.a" "$archive"
 }
 
 run() {
