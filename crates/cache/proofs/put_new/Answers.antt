@@ -93,13 +93,13 @@ returns-then-rows_used-eq-MOST_ROWS c =
 pub insert_at-requires : goal.insert_at-requires
 insert_at-requires c =
     let l = c.args.a.now in
-    let few : length (rows_in l) < most_rows = omega (arith, c.rows_used.ensures, c.if-rows_used-eq-MOST_ROWS.false, c.requires.0.few) in
+    let few : length (rows_in l) < most_rows = omega (arith, c.rows_used.ensures, c.requires.0.few) in
     (c.requires.0, place_inside l c.requires.0 c.args.p c.args.i c.requires.1, few, fitting-tidy c.args.w _ c.requires.2.row (T_true _ c.requires.2.room))
 
 pub returns : goal.returns
 returns c =
     let l = c.args.a.now in
-    let few : length (rows_in l) < most_rows = omega (arith, c.rows_used.ensures, c.if-rows_used-eq-MOST_ROWS.false, c.requires.0.few) in
+    let few : length (rows_in l) < most_rows = omega (arith, c.rows_used.ensures, c.requires.0.few) in
     let end = c.insert_at.new.a in
     let len : length end ≡ area_bytes = search rules in
     made l c.requires.0 c.args.p c.args.i c.args.e c.args.w c.requires.1 c.requires.2 end few

@@ -1,4 +1,5 @@
 -- `names::pair_good` meets its contract. Assumes nothing.
+use borrow.Author.Rules.{rules}
 use Rattle.names.proofs.TableLaws.{pair-none, pair-long, pair_fits}
 use Rattle.names.proofs.pair_good.Goals as goal
 
@@ -15,4 +16,4 @@ returns-then-n-gt-MOST_NAME c =
 pub returns : goal.returns
 returns c =
     let a = c.args in
-    pair_fits a.t.now a.r c.half-start.result c.half-n.result c.half-start.ensures.0 c.half-n.ensures.0 c.if-n-eq0.false c.if-n-gt-MOST_NAME.false
+    pair_fits a.t.now a.r c.half-start.result c.half-n.result c.half-start.ensures.0 c.half-n.ensures.0 c.if-n-eq0.false (search rules)

@@ -1,4 +1,5 @@
 -- `check::check` meets its contract: the guards and the tests are the rules. Assumes nothing.
+use borrow.Author.Rules.{rules}
 use mathlib.Core.Path.{◌≡◌, sym, ap, ◌∙◌, subst}
 use Prim.Native.Nat.{ℕ, ◌-◌, ◌≤◌, ◌<◌}
 use mathlib.Core.List.{List}
@@ -60,8 +61,8 @@ returns c =
     let l = c.args.a.now in
     let ws = words l in
     let used : c.get_word-used.result ≡ rows_used ws = c.get_word-used.ensures in
-    area-made ws (subst (λ (n : ℕ). 1 ≤ n) c.get_word-n.ensures c.if-n-lt1.false) (subst (λ (n : ℕ). n ≤ most_roles) c.get_word-n.ensures c.if-n-gt-MOST_ROLES.false)
-    (subst (λ (n : ℕ). n ≤ most_rows) used c.if-used.false) (subst (λ (n : ℕ). n ≤ last_policy_state) c.get_word-policy.ensures c.if-policy-gt-LAST_POLICY_STATE.false) (area-long l c.if-a-ne-AREA_BYTES.false)
+    area-made ws (subst (λ (n : ℕ). 1 ≤ n) c.get_word-n.ensures (search rules)) (subst (λ (n : ℕ). n ≤ most_roles) c.get_word-n.ensures (search rules))
+    (subst (λ (n : ℕ). n ≤ most_rows) used c.if-used.false) (subst (λ (n : ℕ). n ≤ last_policy_state) c.get_word-policy.ensures (search rules)) (area-long l c.if-a-ne-AREA_BYTES.false)
     (c.rows_good.ensures ∙ ap (λ (n : ℕ). each_below n (good_row_at ws)) used)
     (c.rest_unused.ensures ∙ ap (λ (n : ℕ). zero_rows ws n (most_rows - n)) used)
     ∙ sym (whole l c.if-a-ne-AREA_BYTES.false)
