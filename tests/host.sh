@@ -58,8 +58,9 @@ if [ "$(uname -m)" = x86_64 ]; then
 else
     compiler=x86_64-linux-gnu-gcc
     has_compiler "$compiler" || packages gcc-x86-64-linux-gnu libc6-dev-amd64-cross
-    runner=(qemu-x86_64)
-    command -v "${runner[0]}" >/dev/null || packages qemu-user
+    command -v qemu-x86_64 >/dev/null || packages qemu-user
+    # by its path, since test programs start it too
+    runner=("$(command -v qemu-x86_64)")
 fi
 
 # Whether the machine runs a program of rt with its own C library.
