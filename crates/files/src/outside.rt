@@ -1,7 +1,8 @@
 // Where a program for people meets the system: arguments, messages, files and standard input read. No contract can say what is in
 // a file, so these lines are to be believed: each call is made once, on the name that is handed in, and its answer is kept as it
 // is. Nothing else can make a `Loaded`.
-ghost use Rattle.std.specs.Prelude.{◌≡◌, ◌+◌, ◌≤◌, length, IfOk};
+ghost use Rattle.std.specs.Prelude.{◌≡◌, ◌+◌, ◌≤◌, length, IfOk, Some, pos};
+ghost use Rattle.std.specs.IoError.{raw_os_error};
 ghost use Rattle.io.specs.Counts.{IsPrefixLen};
 ghost use Rattle.files.specs.Loading.{Filled, LoadedInto};
 
@@ -68,7 +69,9 @@ pub fn path_of(name: &[u8]) -> std::io::Result<&str>
 }
 
 // What stands for a reason where nothing failed.
-pub fn no_reason() -> Error {
+pub fn no_reason() -> Error
+    ensures { raw_os_error result ≡ Some (pos 0) }
+{
     Error::from_raw_os_error(0)
 }
 
