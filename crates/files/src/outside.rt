@@ -1,7 +1,7 @@
 // Where a program for people meets the system: arguments, messages, files and standard input read. No contract can say what is in
 // a file, so these lines are to be believed: each call is made once, on the name that is handed in, and its answer is kept as it
 // is. Nothing else can make a `Loaded`.
-ghost use Rattle.std.specs.Prelude.{◌≡◌, ◌+◌, ◌≤◌, length, IfOk, Some, pos};
+ghost use Rattle.std.specs.Prelude.{◌≡◌, ◌+◌, ◌≤◌, length, Some, pos, IsUtf8, MatchResult};
 ghost use Rattle.std.specs.IoError.{raw_os_error};
 ghost use Rattle.io.specs.Counts.{IsPrefixLen};
 ghost use Rattle.files.specs.Loading.{Filled, LoadedInto};
@@ -60,7 +60,7 @@ const NO_TEXT: i32 = 84;
 
 // A name as the system is asked for it: std takes text alone, so other bytes name nothing that could be opened.
 pub fn path_of(name: &[u8]) -> std::io::Result<&str>
-    ensures { IfOk result (λ path. path.now ≡ name.now) }
+    ensures { MatchResult result (λ path. (path.now ≡ name.now) × IsUtf8 name.now) (λ e. ¬ (IsUtf8 name.now) × (raw_os_error e ≡ Some (pos 84))) }
 {
     match std::str::from_utf8(name) {
         Ok(path) => Ok(path),
