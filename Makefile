@@ -38,8 +38,8 @@ help:
 	@echo '                both take PREFIX=$(PREFIX), bindir, libdir, libexecdir, includedir, mandir, pkgconfigdir'
 	@echo '                and DESTDIR, which stands before each and is written into no file'
 	@echo 'make example    builds and runs examples/gateway.c'
-	@echo 'make check      every proof and test, as bash .ci/run; needs rt, takes 10 to 30 minutes'
-	@echo 'make clean      takes away all that was built, the proofs too'
+	@echo 'make check      every proof and test, as bash .ci/run; needs rt, takes half an hour to an hour'
+	@echo 'make clean      takes away all that was built here, the proofs too'
 
 lib: $(archive)
 	@echo $(archive)
