@@ -38,7 +38,7 @@ help:
 	@echo '                both take PREFIX=$(PREFIX), bindir, libdir, libexecdir, includedir, mandir, pkgconfigdir'
 	@echo '                and DESTDIR, which stands before each and is written into no file'
 	@echo 'make example    builds and runs examples/gateway.c'
-	@echo 'make check      every proof and test, as bash .ci/run; needs rt, takes half an hour to an hour'
+	@echo 'make check      every proof and test, as bash .ci/run; needs rt; a quarter of an hour and more'
 	@echo 'make clean      takes away all that was built here, the proofs too'
 
 lib: $(archive)
