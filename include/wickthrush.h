@@ -48,7 +48,7 @@ extern "C" {
 
 #define WICKTHRUSH_VERSION_MAJOR 0
 #define WICKTHRUSH_VERSION_MINOR 5
-#define WICKTHRUSH_VERSION_PATCH 1
+#define WICKTHRUSH_VERSION_PATCH 2
 
 /* The bytes of the lent area. */
 #define WICKTHRUSH_AREA_BYTES 18456

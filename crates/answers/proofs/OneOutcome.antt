@@ -5,13 +5,14 @@ use mathlib.Core.List.{List, ◌++◌}
 use Prim.Native.Nat.{ℕ, ◌+◌}
 use lib.ListN.{length}
 use lib.Seq.{sets}
+use Rattle.std.proofs.Common.{Option}
 use Rattle.meaning.specs.Rows.{Decided}
 use Rattle.text.specs.Write.{Wrote}
 use Rattle.answers.specs.Texts.{answer_text}
 use Rattle.answers.specs.Show.{row_text_at, Shows, stops, shows, RowsShown, AnswerShown}
 use Rattle.answers.specs.declared.show.Shown.{Shown}
 
-shows-one : {l : List ℕ} {room i j k : ℕ} {t u : List ℕ} → Shows l room i j t → Shows l room i k u → (j ≡ k) × (t ≡ u)
+shows-one : {l : List ℕ} {room i : ℕ} {j k : Option ℕ} {t u : List ℕ} → Shows l room i j t → Shows l room i k u → (j ≡ k) × (t ≡ u)
 shows-one (stops e) (stops f) = (refl, refl)
 shows-one (stops e) (shows f b) = absurd (true≢false (sym f ∙ e))
 shows-one (shows e a) (stops f) = absurd (true≢false (sym e ∙ f))

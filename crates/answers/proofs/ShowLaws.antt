@@ -1,12 +1,15 @@
 -- Rows that are handed out, written one after another. Assumes nothing.
-use mathlib.Core.Path.{◌≡◌, refl, sym, ap, subst, subst⁻¹, ◌∙◌}
-use mathlib.Core.Bool.{Bool, true, false, cond, ◌&&◌, false≢true}
+use mathlib.Core.Path.{◌≡◌, refl, sym, ap, subst, ◌∙◌}
+use mathlib.Core.Bool.{Bool, true, false, ◌&&◌, false≢true}
 use mathlib.Core.List.{List, [], ◌++◌, append-nil, append_assoc}
+use mathlib.Core.Logic.{by_cases}
 use Prim.Native.Nat.{ℕ, ◌+◌, ◌-◌, ◌≤◌, ◌<◌, ◌^◌}
+use native.Mathlib.Decide.{dec_lt}
 use native.Mathlib.Omega.{arith}
-use borrow.Author.Tests.{ltb-true, leb-true, le-ltb}
+use borrow.Author.Tests.{le-ltb, lt-ltb, le-leb, lt-leb}
 use lib.Dec.{leb, ltb}
 use lib.ListN.{length}
+use Rattle.std.proofs.Common.{Option, Some, None}
 use Rattle.meaning.specs.Rows.{most_opens, Decided}
 use Rattle.rows.specs.Stored.{Tidy, row_of}
 use Rattle.rows.proofs.Padded.{stored⇒tidy, stored⇒row}
@@ -15,15 +18,16 @@ use Rattle.area.specs.State.{Entry, entry, state_of}
 use Rattle.area.proofs.RowLaws.{GoodEntry, row-good}
 use Rattle.area.proofs.Bytes.{good-state}
 use Rattle.table.specs.Table.{rows_in, nth}
-use Rattle.walker.specs.Walk.{walked, given, none, handed, Walkable}
+use Rattle.std.specs.Borrow.{Bor}
+use Rattle.walker.specs.Walk.{walked, given, handed, next_number, Walkable, moved}
+use Rattle.walker.specs.declared.Walker.{Walker}
 use Rattle.walker.specs.declared.Handed.{Handed}
-use Rattle.walker.proofs.WalkLaws.{walked-good, walked-few}
+use Rattle.walker.proofs.WalkLaws.{walked-good, walked-few, row-handed, some-handed, goes_on}
 use Rattle.text.specs.Write.{Wrote}
-use Rattle.text.proofs.WriteLaws.{wrote_then, wrote-length, wrote_nothing}
+use Rattle.text.proofs.WriteLaws.{wrote_then, wrote-length}
 use Rattle.answers.specs.Texts.{most_text, answer_text, row_text}
-use Rattle.answers.specs.Show.{shows_on, row_after, row_text_at, Shows, stops, shows, showing_at, handed_next, handed_text, Writable, HandedShown, RowsShown, AnswerShown}
+use Rattle.answers.specs.Show.{shows_on, row_after, row_text_at, row_left, Shows, stops, shows, RowsShown, AnswerShown}
 use Rattle.answers.specs.declared.show.Shown.{Shown}
-use Rattle.answers.specs.declared.show.Showing.{Showing}
 use Rattle.answers.proofs.Texts.{length-row, length-answer}
 
 pub both : (a b : Bool) → (a && b) ≡ true → (a ≡ true) × (b ≡ true)
@@ -39,142 +43,140 @@ no-more-rows room i h = rw (le-ltb i most_rows h) (go (leb most_text room))
     go true = refl
     go false = refl
 
+pub no-room : (room i : ℕ) → room < most_text → shows_on room i ≡ false
+unfolding shows_on
+no-room room i h = rw (lt-leb most_text room h) refl
+
 -- ---- what is handed out
 
-module _ (l : List ℕ) (i : ℕ) where
-  pub handed-next : handed_next (handed l i) ≡ row_after l i
-  unfolding handed
-  handed-next = go (ltb i (length (walked l)))
-    where
-      go : (t : Bool) → handed_next (cond t (given i (nth i (walked l))) (none i)) ≡ cond t (i + 1) most_rows
-      go true = refl
-      go false = refl
+module _ (l : List ℕ) (i : ℕ) (h : Handed) (w : Walkable l i) (e : handed l i ≡ Some h) where
+  there : i < length (walked l)
+  there = some-handed l i h e
 
-  pub handed-text : handed_text (handed l i) ≡ row_text_at l i
-  unfolding handed
-  handed-text = go (ltb i (length (walked l)))
-    where
-      go : (t : Bool) → handed_text (cond t (given i (nth i (walked l))) (none i)) ≡ cond t (row_text (nth i (walked l))) []
-      go true = ap (λ (w : Entry). row_text w) (ap (entry (nth i (walked l)).permission) (stored⇒row _ (nth i (walked l)).row refl))
-      go false = refl
+  abbrev held : Entry
+  held = nth i (walked l)
 
-  module _ (w : Walkable l i) where
-    entry-good : ltb i (length (walked l)) ≡ true → GoodEntry (state_of l).roles 0 (nth i (walked l))
-    entry-good e =
-        let below = ltb-true i (length (walked l)) e in
-        let good = w (let few = walked-few l in omega arith) in
-        rw (walked-good l good.good) (row-good (state_of l).roles 0 (rows_in l) (good-state l good.good).good-rows i (rw (walked-good l good.good) at below))
+  held-good : GoodEntry (state_of l).roles 0 held
+  held-good =
+      let good = w (let few = walked-few l in let k = there in omega arith) in
+      rw (walked-good l good.good) (row-good (state_of l).roles 0 (rows_in l) (good-state l good.good).good-rows i (rw (walked-good l good.good) at there))
 
-    row-short : length (row_text_at l i) ≤ most_text
-    row-short = go (ltb i (length (walked l))) refl
-      where
-        go : (t : Bool) → ltb i (length (walked l)) ≡ t → length (cond t (row_text (nth i (walked l))) []) ≤ most_text
-        go true e = let g = entry-good e in length-row (nth i (walked l)) (let v = g.valid in omega arith) g.good-row.few
-        go false e = omega arith
+  -- it is the row of that number
+  is-given : h ≡ given held
+  is-given = let q = sym e ∙ row-handed l i there in cc
 
-    handed-tidy : (handed l i).some ≡ true → Tidy most_opens (handed l i).row.opens
-    unfolding handed
-    handed-tidy = go (ltb i (length (walked l))) refl
-      where
-        go : (t : Bool) → ltb i (length (walked l)) ≡ t → (cond {A = Handed} t (given i (nth i (walked l))) (none i)).some ≡ true → Tidy most_opens (cond {A = Handed} t (given i (nth i (walked l))) (none i)).row.opens
-        go true e s = stored⇒tidy most_opens _ (nth i (walked l)).row.opens refl (entry-good e).good-row.few
-        go false e s = absurd (false≢true s)
+  pub handed-entry : entry h.permission (row_of h.row) ≡ held
+  handed-entry = ap (λ (x : Handed). entry x.permission (row_of x.row)) is-given ∙ ap (entry held.permission) (stored⇒row _ held.row refl)
 
-    pub handed-writable : Writable (handed l i)
-    handed-writable = record { tidy = handed-tidy; short = rw handed-text row-short }
+  pub handed-tidy : Tidy most_opens h.row.opens
+  handed-tidy = stored⇒tidy most_opens _ held.row.opens (ap (λ (x : Handed). x.row.opens) is-given) held-good.good-row.few
 
--- ---- what was handed out, written
+  pub handed-short : length (row_text (entry h.permission (row_of h.row))) ≤ most_text
+  handed-short = let g = held-good in rw handed-entry (length-row held (let v = g.valid in omega arith) g.good-row.few)
 
-module _ (h : Handed) (some : h.some ≡ true) (d : List ℕ) (at : ℕ) where
-  row-text : handed_text h ≡ row_text (entry h.permission (row_of h.row))
-  row-text = rw some refl
+  pub handed-text : row_text (entry h.permission (row_of h.row)) ≡ row_text_at l i
+  handed-text = ap row_text handed-entry ∙ sym (rw (lt-ltb i (length (walked l)) there) refl)
 
-  pub text-fits : Writable h → at + most_text ≤ length d → at + length (row_text (entry h.permission (row_of h.row))) ≤ length d
-  text-fits w room = let n = w.short in let e = ap length row-text in omega arith
+  pub handed-after : row_after l i ≡ i + 1
+  handed-after = rw (lt-ltb i (length (walked l)) there) refl
 
-  pub row-shown : (e : List ℕ) (z : ℕ) (r : Showing) → r ≡ showing_at h.next z (length d) → Wrote d at (row_text (entry h.permission (row_of h.row))) e z → HandedShown h d at r e
-  row-shown e z r q w = subst⁻¹ (λ (x : Showing). HandedShown h d at x e) q (record { showing = rw some refl; wrote = rw some w })
-
-pub no-row-shown : (h : Handed) → h.some ≡ false → (d : List ℕ) (at : ℕ) (r : Showing) → r ≡ showing_at most_rows at (length d) → HandedShown h d at r d
-no-row-shown h none d at r q = subst⁻¹ (λ (x : Showing). HandedShown h d at x d) q (record { showing = rw none refl; wrote = rw none (wrote_nothing d at) })
+  pub handed-shows : {room : ℕ} → most_text ≤ room → shows_on room i ≡ true
+  unfolding shows_on
+  handed-shows {room} m = rw (le-leb most_text room m, lt-ltb i most_rows (let few = walked-few l in let k = there in omega arith)) refl
 
 -- ---- rows one after another
 
--- from row i₀ on, with the buffer d₀ written up to at₀, it has come to s and the buffer d: what is shown from there on, is shown in all
-pub record Partly (l : List ℕ) (i₀ at₀ : ℕ) (d₀ : List ℕ) (s : Showing) (d : List ℕ) : Type 0 where
+-- from the walker w₀ on, with the buffer d₀ written up to at₀, it has come to the walker w and the buffer d, written up to
+-- `at`: what is shown from there on, is shown in all
+pub record Partly (w₀ : Walker) (at₀ : ℕ) (d₀ : List ℕ) (w : Walker) (at : ℕ) (d : List ℕ) : Type 0 where
   pub text : List ℕ
-  pub walkable : Walkable l s.row
-  pub showing : s ≡ showing_at s.row s.written (length d₀)
-  pub wrote : Wrote d₀ at₀ text d s.written
-  pub inside : s.written ≤ length d₀
-  pub goes : (j : ℕ) (t : List ℕ) → Shows l (length d₀ - s.written) s.row j t → Shows l (length d₀ - at₀) i₀ j (text ++ t)
+  pub area : w.area ≡ w₀.area
+  pub walkable : Walkable w₀.area.now w.next
+  pub wrote : Wrote d₀ at₀ text d at
+  pub inside : at ≤ length d₀
+  pub goes : (j : Option ℕ) (t : List ℕ) → Shows w₀.area.now (length d₀ - at) w.next j t → Shows w₀.area.now (length d₀ - at₀) w₀.next j (text ++ t)
 
-pub partly-start : (l : List ℕ) (i at : ℕ) (d : List ℕ) (s : Showing) → Walkable l i → at ≤ length d → s ≡ showing_at i at (length d) → Partly l i at d s d
-partly-start l i at d s w h e =
-    subst⁻¹ (λ (x : Showing). Partly l i at d x d) e
-    (record { text = []; walkable = w; showing = refl; wrote = wrote_nothing d at; inside = h; goes = λ j t a. a })
+module _ {w₀ : Walker} {at₀ : ℕ} {d₀ : List ℕ} {w : Walker} {at : ℕ} {d : List ℕ} (p : Partly w₀ at₀ d₀ w at d) where
+  abbrev l : List ℕ
+  l = w₀.area.now
 
-module _ (l : List ℕ) (i₀ at₀ : ℕ) (d₀ : List ℕ) (s : Showing) (d : List ℕ) (p : Partly l i₀ at₀ d₀ s d) where
+  abbrev i : ℕ
+  i = w.next
+
   pub partly-length : length d ≡ length d₀
   partly-length = wrote-length p.wrote
 
-  module _ (g : s.going ≡ true) where
-    goes_on : shows_on (length d₀ - s.written) s.row ≡ true
-    goes_on = sym (ap (λ (x : Showing). x.going) p.showing) ∙ g
+  at-row : handed w.area.now i ≡ handed l i
+  at-row = ap (λ (a : Bor (List ℕ)). handed a.now i) p.area
 
-    below : (most_text ≤ length d₀ - s.written) × (s.row < most_rows)
-    unfolding shows_on
-    below =
-        let t = both (leb most_text (length d₀ - s.written)) (ltb s.row most_rows) goes_on in
-        (leb-true most_text (length d₀ - s.written) t.0, ltb-true s.row most_rows t.1)
-
-    pub partly-room : s.written + most_text ≤ length d
-    partly-room = let b = below.0 in let n = partly-length in omega arith
-
-    module _ (h : Handed) (e : h ≡ handed l s.row) where
-      pub partly-writable : Writable h
-      partly-writable = subst⁻¹ Writable e (handed-writable l s.row p.walkable)
-
-      next-is : handed_next h ≡ row_after l s.row
-      next-is = ap handed_next e ∙ handed-next l s.row
-
-      text-is : handed_text h ≡ row_text_at l s.row
-      text-is = ap handed_text e ∙ handed-text l s.row
-
-      module _ (r : Showing) (d' : List ℕ) (c : HandedShown h d s.written r d') where
-        row_is : r.row ≡ row_after l s.row
-        row_is = ap (λ (x : Showing). x.row) c.showing ∙ next-is
-
-        pub partly-less : most_rows - r.row < most_rows - s.row
-        partly-less = rw row_is (go (ltb s.row (length (walked l))))
-          where
-            go : (t : Bool) → most_rows - cond t (s.row + 1) most_rows < most_rows - s.row
-            go true = let b = below.1 in omega arith
-            go false = let b = below.1 in omega arith
-
-        pub partly-next : Partly l i₀ at₀ d₀ r d'
-        partly-next =
-            let wrote : Wrote d s.written (row_text_at l s.row) d' r.written = rw (← text-is) c.wrote in
-            let few = row-short l s.row p.walkable in
-            let room = below.0 in record {
-              text = p.text ++ row_text_at l s.row;
-              walkable = λ k. p.walkable below.1;
-              showing = c.showing ∙ (λ j. showing_at (sym (ap (λ (x : Showing). x.row) c.showing) j) r.written (partly-length j));
-              wrote = wrote_then p.wrote wrote;
-              inside = omega (arith, wrote.next, few, room);
-              goes = λ j t a.
-                  let left : length d₀ - r.written ≡ length d₀ - s.written - length (row_text_at l s.row) = let n = wrote.next in omega arith in
-                  subst (λ (x : List ℕ). Shows l (length d₀ - at₀) i₀ j x) (sym (append_assoc p.text (row_text_at l s.row) t))
-                  (p.goes j (row_text_at l s.row ++ t) (shows goes_on (subst (λ (n : ℕ). Shows l n (row_after l s.row) j t) left (subst (λ (i : ℕ). Shows l (length d₀ - r.written) i j t) row_is a))));
-            }
-
-  pub partly-end : s.going ≡ false → RowsShown l i₀ at₀ d₀ (record { row = s.row; written = s.written }) d
-  partly-end g = record {
+  -- no more rows are shown
+  ends : {j : Option ℕ} → Shows l (length d₀ - at) i j [] → RowsShown l w₀.next at₀ d₀ (record { row = j; written = at }) d
+  ends {j} s = record {
     text = p.text;
-    shows = subst (Shows l (length d₀ - at₀) i₀ s.row) (append-nil p.text) (p.goes s.row [] (stops (sym (ap (λ (x : Showing). x.going) p.showing) ∙ g)));
+    shows = subst (Shows l (length d₀ - at₀) w₀.next j) (append-nil p.text) (p.goes j [] s);
     wrote = p.wrote;
     inside = p.inside;
   }
+
+  -- there is no room
+  pub partly-full : length d - at < most_text → {j : Option ℕ} → j ≡ row_left i → RowsShown l w₀.next at₀ d₀ (record { row = j; written = at }) d
+  partly-full h e = ends (rw e (stops (no-room (length d₀ - at) i (let n = partly-length in omega arith))))
+
+  -- there is no row
+  pub partly-none : most_text ≤ length d - at → None ≡ handed w.area.now i → RowsShown l w₀.next at₀ d₀ (record { row = None; written = at }) d
+  unfolding shows_on
+  partly-none m e = ends (by_cases (dec_lt i most_rows) one-more none-left)
+    where
+      room : ℕ
+      room = length d₀ - at
+
+      past : length (walked l) ≤ i
+      past = by_cases (dec_lt i (length (walked l))) (λ k. let q = e ∙ at-row ∙ row-handed l i k in absurd cc) (λ k. omega arith)
+
+      one-more : i < most_rows → Shows l room i None []
+      one-more k =
+          let on : shows_on room i ≡ true = rw (le-leb most_text room (let n = partly-length in omega arith), lt-ltb i most_rows k) refl in
+          let off : ltb i (length (walked l)) ≡ false = le-ltb i (length (walked l)) past in
+          let text : row_text_at l i ≡ [] = rw off refl in
+          let after : row_after l i ≡ most_rows = rw off refl in
+          subst (λ (t : List ℕ). Shows l room i None (t ++ [])) text (shows on (rw after (stops (no-more-rows _ most_rows (omega arith)))))
+
+      none-left : ¬ (i < most_rows) → Shows l room i None []
+      none-left k = subst (λ (j : Option ℕ). Shows l room i j []) (rw (le-ltb i most_rows (omega arith)) refl) (stops (no-more-rows room i (omega arith)))
+
+  module _ (m : most_text ≤ length d - at) {h : Handed} (e : Some h ≡ handed w.area.now i) where
+    is-row : handed l i ≡ Some h
+    is-row = sym (e ∙ at-row)
+
+    short : length (row_text (entry h.permission (row_of h.row))) ≤ most_text
+    short = handed-short l i h p.walkable is-row
+
+    pub partly-writable : Tidy most_opens h.row.opens × (at + length (row_text (entry h.permission (row_of h.row))) ≤ length d)
+    partly-writable = (handed-tidy l i h p.walkable is-row, let s = short in omega arith)
+
+    pub partly-next : {d' : List ℕ} {z : ℕ} {v : Walker} → v ≡ moved w → Wrote d at (row_text (entry h.permission (row_of h.row))) d' z → Partly w₀ at₀ d₀ v z d'
+    partly-next {d'} {z} {v} o c = record {
+      text = p.text ++ row_text_at l i;
+      area = ap (λ (x : Walker). x.area) o ∙ p.area;
+      walkable = λ k. p.walkable (omega (arith, moves));
+      wrote = wrote_then p.wrote wrote;
+      inside = let s = short in let n = c.next in let k = partly-length in omega arith;
+      goes = λ j t a.
+          let left : length d₀ - z ≡ length d₀ - at - length (row_text_at l i) = let n = wrote.next in omega arith in
+          let after : v.next ≡ row_after l i = moves ∙ sym (handed-after l i h p.walkable is-row) in
+          subst (λ (x : List ℕ). Shows l (length d₀ - at₀) w₀.next j x) (sym (append_assoc p.text (row_text_at l i) t))
+          (p.goes j (row_text_at l i ++ t) (shows (handed-shows l i h p.walkable is-row (let n = partly-length in omega arith)) (subst (λ (n : ℕ). Shows l n (row_after l i) j t) left (subst (λ (k : ℕ). Shows l (length d₀ - z) k j t) after a))));
+    }
+      where
+        wrote : Wrote d at (row_text_at l i) d' z
+        wrote = rw (← handed-text l i h p.walkable is-row) c
+
+        moves : v.next ≡ i + 1
+        moves = ap (λ (x : Walker). x.next) o ∙ ap (λ (a : Bor (List ℕ)). next_number a.now i) p.area ∙ goes_on l i (some-handed l i h is-row)
+
+-- what a page is left with, its buffer is
+pub rows-left : {l : List ℕ} {i at : ℕ} {d e f : List ℕ} {r : Shown} → RowsShown l i at d r e → f ≡ e → RowsShown l i at d r f
+rows-left a same = rw same a
 
 -- ---- an answer, and the rows after it
 

@@ -1,6 +1,7 @@
 -- The answer to a request, and the row to begin with where rows are shown.
 --     Answered              an answer, with the role to ask about, and the bytes of the area afterwards
 --     plain o               the answer and the bytes of a call that names no role
+--     unreadable            what a line is answered that can't be read: Rules, Answers
 --     answer_of l q         the answer to a request on the area l, and the bytes afterwards: those of the call it asks for
 --     is_decide q           the request is a Q line
 --     ThirdField            a Q line answered 12 has the role that decide gives as a third field; any other answer has two fields
@@ -13,8 +14,6 @@ use Rattle.area.specs.Layout.{most_rows}
 use Rattle.meaning.specs.Rows.{Decided, bare}
 use Rattle.walker.specs.Walk.{first_row, start_answer}
 use Rattle.calls.specs.Calls.{Out, stays, open_of, decide_of, forget_of}
-use Rattle.calls.specs.declared.Answer.TheVariants as answers
-use Rattle.calls.specs.Answers.{number_of}
 use Rattle.calls.specs.Histories.{out_of, call_of}
 use Rattle.text.specs.Ascii.{space, lf}
 use Rattle.text.specs.Number.{number_text}
@@ -31,13 +30,16 @@ pub record Answered : Type 0 where
 abbrev pub plain : Out → Answered
 plain o = record { answer = bare o.answer; area = o.area }
 
+abbrev pub unreadable : ℕ
+unreadable = 9
+
 unfoldable pub answer_of : List ℕ → Request → Answered
 answer_of l (Open n g) = plain (open_of l n g)
 answer_of l (Told e) = plain (out_of (call_of e) l)
 answer_of l (Decide p s) = record { answer = decide_of l p s.bits; area = l }
 answer_of l (Forget p) = plain (forget_of l p)
 answer_of l Show = plain (stays (start_answer l) l)
-answer_of l Unreadable = plain (stays (number_of answers.Unreadable) l)
+answer_of l Unreadable = plain (stays unreadable l)
 
 unfoldable pub first_shown : List ℕ → Request → ℕ
 first_shown l (Open n g) = most_rows

@@ -6,46 +6,33 @@ pub mod show;
 pub mod write;
 
 ghost use Rattle.std.specs.Prelude.{◌+◌, ◌≤◌, length};
-ghost use Rattle.calls.specs.Answers.{Gives, decided_of};
-ghost use Rattle.calls.specs.Histories.{out_of, call_of};
 ghost use Rattle.answers.specs.Answers.{Answers};
-ghost use Rattle.answers.specs.Texts.{most_text};
+ghost use Rattle.answers.specs.Texts.{most_text, with_role};
 ghost use Rattle.answers.specs.Show.{OnlyAnswer};
 
-use area::MOST_ROWS;
-use calls::{Answer, Decided, bare, number};
-use meaning::{Event, Happening};
+use calls::{Numbered, role};
 use requests::Request;
+use roles::MOST_ROLES;
 use show::{Shown, from_start};
+use text::Page;
 use write::write_decided;
 
 // No answer and no row is longer.
 pub const MOST_TEXT: usize = 4096;
 
-// A line's event comes in by the call that C has too, as kind and number.
-fn tell(area: &mut [u8], e: Event) -> Answer
-    ensures { Gives (out_of (call_of e) area.old) result area.new }
-{
-    let p = e.permission;
-    let h = e.happening;
-    let g = e.state;
-    match h {
-        Happening::Deny(s) => cache::event(area, p, 0, s.bits, g),
-        Happening::Allow(s) => cache::event(area, p, 1, s.bits, g),
-        Happening::Withdrawn(r) => cache::event(area, p, 2, r, g),
-        Happening::Given(r) => cache::event(area, p, 3, r, g),
-    }
-}
+// What a line is answered that can't be read: Rules, Answers. A number, since no call gives it.
+const UNREADABLE: u32 = 9;
 
-// An answer written; no rows follow.
-fn write_only(out: &mut [u8], at: usize, line: u64, d: Decided) -> Shown
+// An answer written, with the role to ask about; no rows follow.
+fn write_only(out: &mut [u8], at: usize, line: u64, answer: u32, role: u64) -> Shown
     requires { at + most_text ≤ length out.old }
-    ensures { OnlyAnswer line (decided_of d) at out.old result out.new }
+    ensures { OnlyAnswer line (with_role answer role) at out.old result out.new }
 {
-    let answer = d.answer;
+    let mut page = Page::new(out, at);
+    write_decided(&mut page, line, answer, role);
     Shown {
-        row: MOST_ROWS,
-        written: write_decided(out, at, line, number(answer), d.role),
+        row: None,
+        written: page.at,
     }
 }
 
@@ -55,11 +42,23 @@ pub fn answer(area: &mut [u8], q: Request, line: u64, out: &mut [u8], at: usize)
     ensures { Answers area.old q line at out.old result area.new out.new }
 {
     match q {
-        Request::Open(n, g) => write_only(out, at, line, bare(cache::open(area, n, g))),
-        Request::Told(e) => write_only(out, at, line, bare(tell(area, e))),
-        Request::Decide(p, s) => write_only(out, at, line, cache::decide(area, p, s.bits)),
-        Request::Forget(p) => write_only(out, at, line, bare(cache::forget(area, p))),
+        Request::Open(n, g) => {
+            let opened = cache::open(area, n, g);
+            write_only(out, at, line, opened.number(), MOST_ROLES)
+        }
+        Request::Told(e) => {
+            let kept = cache::tell(area, e);
+            write_only(out, at, line, kept.number(), MOST_ROLES)
+        }
+        Request::Decide(p, s) => {
+            let decided = cache::decide(area, p, s.bits);
+            write_only(out, at, line, decided.number(), role(decided))
+        }
+        Request::Forget(p) => {
+            let forgotten = cache::forget(area, p);
+            write_only(out, at, line, forgotten.number(), MOST_ROLES)
+        }
         Request::Show => from_start(area, line, out, at),
-        Request::Unreadable => write_only(out, at, line, bare(Answer::Unreadable)),
+        Request::Unreadable => write_only(out, at, line, UNREADABLE, MOST_ROLES),
     }
 }

@@ -1,67 +1,47 @@
 // The rows of an area shown: one walker goes from row to row, as long as it has a row and the buffer has room for one.
-ghost use Rattle.std.specs.Prelude.{◌≡◌, ◌+◌, ◌≤◌, length};
+ghost use Rattle.std.specs.Prelude.{◌+◌, ◌≤◌, length};
 ghost use Rattle.meaning.specs.Rows.{bare};
 ghost use Rattle.walker.specs.Walk.{Walkable, first_row, start_answer, go_on_at};
 ghost use Rattle.answers.specs.Texts.{most_text};
-ghost use Rattle.answers.specs.Show.{showing_at, Writable, HandedShown, RowsShown, AnswerShown};
+ghost use Rattle.answers.specs.Show.{RowsShown, AnswerShown};
 
-use super::MOST_TEXT;
 use super::write::{write_answer, write_row};
+use super::{MOST_TEXT, write_only};
 use area::MOST_ROWS;
-use walker::{Handed, Walker, hand_out, resume, start};
+use calls::{Kept, Numbered, Refusal};
+use roles::MOST_ROLES;
+use text::Page;
+use walker::{BadArea, Walker, resume, start};
 
-// Where showing rows has come to: the row to go on with, of which MOST_ROWS stands for none, and how much of the buffer is written.
+// Where showing rows has come to: the row to go on with, if one may be left, and how much of the buffer is written. The calls that give
+// it take a buffer and a place: over a page each of `RowsShown`, `OnlyAnswer`, `AnswerShown` and `Answers`, of which the theorems of
+// proofs/OneOutcome.antt speak, would need a second definition beside it.
 #[derive(Clone, Copy)]
 pub struct Shown {
-    pub row: usize,
+    pub row: Option<usize>,
     pub written: usize,
 }
 
-// The same, and whether it goes on.
-#[derive(Clone, Copy)]
-struct Showing {
-    going: bool,
-    row: usize,
-    written: usize,
-}
-
-fn come_to(row: usize, written: usize, room: usize) -> Showing
-    requires { written ≤ room }
-    ensures { result ≡ showing_at row written room }
+// The rows from the walker's on, while there is one and room for it. No `for`: it asks for a row before the room is tested, and a row
+// that was asked for is passed.
+fn walk(mut walker: Walker<'_>, out: &mut [u8], at: usize) -> Shown
+    requires { Walkable walker.area.now walker.next × (at ≤ length out.old) }
+    ensures { RowsShown walker.entry.area.now walker.entry.next at out.old result out.new }
 {
-    Showing {
-        going: (MOST_TEXT <= room - written) & (row < MOST_ROWS),
-        row,
-        written,
+    let mut page = Page::new(out, at);
+    while MOST_TEXT <= page.out.len() - page.at {
+        let Some(handed) = walker.next() else {
+            return Shown {
+                row: None,
+                written: page.at,
+            };
+        };
+        write_row(&mut page, handed.permission, handed.row);
     }
-}
-
-// What was handed out written: a row, or that there is none.
-fn write_handed(h: Handed, out: &mut [u8], at: usize) -> Showing
-    requires { Writable h × (at + most_text ≤ length out.old) }
-    ensures { HandedShown h out.old at result out.new }
-{
-    let room = out.len();
-    if h.some {
-        let written = write_row(out, at, h.permission, h.row);
-        return come_to(h.next, written, room);
-    }
-    come_to(MOST_ROWS, at, room)
-}
-
-// The walker is kept from row to row, and moves on by the number that was handed out.
-fn walk<'a>(mut w: Walker<'a>, out: &mut [u8], at: usize) -> Shown
-    requires { Walkable w.area.now w.next × (at ≤ length out.old) }
-    ensures { RowsShown w.entry.area.now w.entry.next at out.old result out.new }
-{
-    let mut s = come_to(w.next, at, out.len());
-    while s.going {
-        s = write_handed(hand_out(w), out, s.written);
-        w.next = s.row;
-    }
+    let row = walker.next;
     Shown {
-        row: s.row,
-        written: s.written,
+        row: (row < MOST_ROWS).then_some(row),
+        written: page.at,
     }
 }
 
@@ -70,9 +50,15 @@ pub fn from_start(area: &[u8], line: u64, out: &mut [u8], at: usize) -> Shown
     requires { at + most_text ≤ length out.old }
     ensures { AnswerShown line (bare (start_answer area.now)) area.now (first_row area.now) at out.old result out.new }
 {
-    let s = start(area);
-    let written = write_answer(out, at, line, s.answer);
-    walk(s.walker, out, written)
+    match start(area) {
+        Ok(walker) => {
+            let mut page = Page::new(out, at);
+            write_answer(&mut page, line, Kept::Recorded.number());
+            let written = page.at;
+            walk(walker, out, written)
+        }
+        Err(BadArea) => write_only(out, at, line, Refusal::BadArea.number(), MOST_ROLES),
+    }
 }
 
 // The rows from a number on, by a walker that goes on there.

@@ -10,7 +10,7 @@ use borrow.Author.Tests.{le-leb, lt-leb}
 use lib.Dec.{T, ltb, leb, ltb→lt, le→leb, leb→le}
 use lib.ListN.{length, get_or, take, drop, length-take, length-drop}
 use lib.Seq.{take_all, take-take, drop-drop, get_or-take, get_or-drop}
-use Rattle.words.specs.Words.{words, Spans, all_zero}
+use Rattle.words.specs.Words.{words, all_zero}
 use Rattle.words.proofs.Laws.{length-words}
 use Rattle.words.proofs.Runs.{drop-run, all_zero-split}
 use Rattle.roles.specs.Sets.{all_below, most_roles}
@@ -26,10 +26,6 @@ use Rattle.area.proofs.Rules.{each_below-law}
 -- tests as code joins them, and as a list of rules does
 regrouped : (a c d s o : Bool) → (((a && c) && d) && (s && o)) ≡ (a && (c && (d && (s && (o && true)))))
 regrouped a c d s o = and_assoc (a && c) d (s && o) ∙ and_assoc a c (d && (s && o)) ∙ ap (λ (x : Bool). a && (c && (d && (s && x)))) (sym (and-true o))
-
--- an area has every word of the layout
-pub area-spans : (l : List ℕ) (n : ℕ) → length l ≡ area_bytes → n ≤ area_words → Spans l n
-area-spans l n e h = record { whole = omega arith; enough = omega arith }
 
 pub area-long : (l : List ℕ) → length l ≡ area_bytes → length (words l) ≡ area_words
 area-long l e = omega (arith, length-words l)

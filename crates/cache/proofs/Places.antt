@@ -14,24 +14,23 @@ use Rattle.area.specs.Layout.{area_bytes}
 use Rattle.area.specs.State.{Entry, State, place, words_of, area_of}
 use Rattle.area.proofs.RowLaws.{Hit}
 use Rattle.table.specs.Table.{rows_in, Sound, nth, has_row, found_for}
-use Rattle.table.specs.declared.Found.{Found}
-use Rattle.table.specs.declared.Found.TheVariants.{At, Vacant}
+use Rattle.std.specs.Prelude.{Result, Ok, Err}
 
 -- ---- what `find` answers
 
-abbrev is_at : Found → Bool
-is_at (At i) = true
-is_at (Vacant i) = false
+abbrev is_at : Result ℕ ℕ → Bool
+is_at (Ok i) = true
+is_at (Err i) = false
 
-abbrev number_in : Found → ℕ
-number_in (At i) = i
-number_in (Vacant i) = i
+abbrev number_in : Result ℕ ℕ → ℕ
+number_in (Ok i) = i
+number_in (Err i) = i
 
-at-is : (b : Bool) (k : ℕ) → is_at (cond b (At k) (Vacant k)) ≡ b
+at-is : (b : Bool) (k : ℕ) → is_at (cond b (Ok k) (Err k)) ≡ b
 at-is true k = refl
 at-is false k = refl
 
-number_is : (b : Bool) (k : ℕ) → number_in (cond b (At k) (Vacant k)) ≡ k
+number_is : (b : Bool) (k : ℕ) → number_in (cond b (Ok k) (Err k)) ≡ k
 number_is true k = refl
 number_is false k = refl
 
@@ -52,18 +51,18 @@ module _ (p : ℕ) (es : List Entry) where
   hit-has : Hit p es → has_row p es ≡ true
   hit-has k = ap₂ (λ (a b : Bool). a && b) (lt-ltb (place p es) (length es) k.inside) (eq-eqb (nth (place p es) es).permission p k.own)
 
-pub found_at : (l : List ℕ) (s : Sound l) (p i : ℕ) → found_for p (rows_in l) ≡ At i → Hit p (rows_in l) × (i ≡ place p (rows_in l))
+pub found_at : (l : List ℕ) (s : Sound l) (p i : ℕ) → found_for p (rows_in l) ≡ Ok i → Hit p (rows_in l) × (i ≡ place p (rows_in l))
 found_at l s p i e =
     let es = rows_in l in (
-      has-hit p es (sym (found-is p es) ∙ ap (λ (f : Found). is_at f) e),
-      sym (ap (λ (f : Found). number_in f) e) ∙ found_number p es,
+      has-hit p es (sym (found-is p es) ∙ ap (λ (f : Result ℕ ℕ). is_at f) e),
+      sym (ap (λ (f : Result ℕ ℕ). number_in f) e) ∙ found_number p es,
     )
 
-pub found-vacant : (l : List ℕ) (s : Sound l) (p i : ℕ) → found_for p (rows_in l) ≡ Vacant i → ¬ (Hit p (rows_in l)) × (i ≡ place p (rows_in l))
+pub found-vacant : (l : List ℕ) (s : Sound l) (p i : ℕ) → found_for p (rows_in l) ≡ Err i → ¬ (Hit p (rows_in l)) × (i ≡ place p (rows_in l))
 found-vacant l s p i e =
     let es = rows_in l in (
-      (λ k. subst T (sym (hit-has p es k) ∙ sym (found-is p es) ∙ ap (λ (f : Found). is_at f) e) tt),
-      sym (ap (λ (f : Found). number_in f) e) ∙ found_number p es,
+      (λ k. subst T (sym (hit-has p es k) ∙ sym (found-is p es) ∙ ap (λ (f : Result ℕ ℕ). is_at f) e) tt),
+      sym (ap (λ (f : Result ℕ ℕ). number_in f) e) ∙ found_number p es,
     )
 
 -- ---- bytes

@@ -19,20 +19,17 @@ use Rattle.area.specs.State.{Entry, is_blank, row_for, with_row, place, insert_a
 use Rattle.area.proofs.RowLaws.{Hit, hit-law, hit-row, miss-row, place-most, row-good, put-over, put-new, put-out, put-not}
 use Rattle.area.proofs.Bytes.{good-state, good-area}
 use Rattle.rows.specs.declared.Row as Stored-row
-use Rattle.rows.specs.declared.Settled as stored-settled
-use Rattle.rows.specs.declared.Answer as stored_answer
-use Rattle.rows.specs.Stored as stored-specs
-use Rattle.rows.specs.Stored.{Tidy, Proper, held, row_of, stored_row, answer_number}
-use Rattle.rows.proofs.Padded.{stored⇒tidy, stored⇒proper, stored⇒row, tidy-count}
+use Rattle.rows.specs.Stored.{Tidy, Proper, held, row_of, stored_row}
+use Rattle.rows.proofs.Padded.{stored⇒tidy, stored⇒proper, tidy-count}
 use Rattle.table.specs.Table.{rows_in, Sound, holding, nth, found_for}
-use Rattle.table.specs.declared.Found.TheVariants.{At, Vacant}
+use Rattle.std.specs.Prelude.{Ok, Err}
 use Rattle.calls.proofs.CallLaws.{event_on, event-in}
 use Rattle.cache.specs.Here.{event_here}
 use Rattle.cache.proofs.Places.{found_at, found-vacant}
 
 module _ (l : List ℕ) (s : Sound l) (p i : ℕ) where
   -- where p has a row, of number i
-  module _ (e : found_for p (rows_in l) ≡ At i) where
+  module _ (e : found_for p (rows_in l) ≡ Ok i) where
     hit : Hit p (rows_in l)
     hit = (found_at l s p i e).0
 
@@ -55,7 +52,7 @@ module _ (l : List ℕ) (s : Sound l) (p i : ℕ) where
     state-out w b = ap (holding l) (ap (λ (k : ℕ). remove_at k (rows_in l)) here ∙ sym (put-out p w (rows_in l) hit b))
 
   -- where p has none, and i is its place
-  module _ (e : found_for p (rows_in l) ≡ Vacant i) where
+  module _ (e : found_for p (rows_in l) ≡ Err i) where
     miss : ¬ (Hit p (rows_in l))
     miss = (found-vacant l s p i e).0
 
@@ -95,17 +92,10 @@ fitting-tidy w v e f = stored⇒tidy most_opens w.opens v.opens (ap (λ (x : Sto
 
 -- ---- events
 
--- the answer of a step by value, where its row is v
-pub answered : (e : Happening) (w v : Row) (r : stored-settled.Settled) (a : stored_answer.Answer) → w ≡ v → stored-specs.Gives (settle fits e w) r → r.answer ≡ a → (settle fits e v).answer ≡ answer_number a
-answered e w v r a ew g q = sym (ap (λ (x : Row). (settle fits e x).answer) ew) ∙ sym g.answer ∙ ap answer_number q
-
-pub settled-row : (e : Happening) (w v : Row) (r : stored-settled.Settled) → w ≡ v → stored-specs.Gives (settle fits e w) r → row_of r.row ≡ (settle fits e v).row
-settled-row e w v r ew g = stored⇒row r.row (settle fits e w).row g.row ∙ ap (λ (x : Row). (settle fits e x).row) ew
-
-pub settled-tidy : (e : Happening) (w : Stored-row.Row) (r : stored-settled.Settled) → Tidy most_opens w.opens → stored-specs.Gives (settle fits e (row_of w)) r → Tidy most_opens r.row.opens
-settled-tidy e w r t g =
+pub recorded-tidy : (e : Happening) (w : Stored-row.Row) (r : Stored-row.Row) → Tidy most_opens w.opens → r ≡ stored_row (settle fits e (row_of w)).row → Tidy most_opens r.opens
+recorded-tidy e w r t q =
     let few : length (held w.opens) ≤ most_opens = let f = t.few in omega (arith, tidy-count most_opens w.opens t (omega arith)) in
-    stored⇒tidy most_opens r.row.opens (settle fits e (row_of w)).row.opens (ap (λ (x : Stored-row.Row). x.opens) g.row)
+    stored⇒tidy most_opens r.opens (settle fits e (row_of w)).row.opens (ap (λ (x : Stored-row.Row). x.opens) q)
     ((fits-law (settle fits e (row_of w)).row).0 (settle-fits e (row_of w) ((fits-law (row_of w)).1 few)))
 
 -- a known event is known among all roles that there may be

@@ -2,3 +2,4 @@
 pub mod Fresh
 pub mod Here
 pub mod Sees
+pub mod First

@@ -2,7 +2,7 @@
 use mathlib.Core.Path.{◌≡◌, refl, sym, ap, ◌∙◌, subst, subst⁻¹}
 use mathlib.Core.Bool.{Bool, true, false, not, cond, ◌&&◌, ◌||◌, and-true, or-true}
 use mathlib.Core.List.{List}
-use mathlib.Core.Logic.{◌↔◌, ◌≢◌, ⊎_elim}
+use mathlib.Core.Logic.{◌↔◌, ◌≢◌, ◌⊎◌, inl, inr, ⊎_elim}
 use Prim.Native.Nat.{ℕ, ◌≤◌, ◌<◌}
 use native.Mathlib.Nat.{lt_of_lt_of_le}
 use native.Mathlib.Omega.{arith}
@@ -269,6 +269,12 @@ module _ (l : List ℕ) (p s : ℕ) where
   look-answers =
       by-look (λ x. x.decided.answer ≢ 1 → x.decided.answer ≢ 3 → x.decided.answer ≢ 4 → x.decided ≡ decide x.row s)
       (λ x y z. absurd (x refl)) (λ x y z. absurd (y refl)) (λ x y z. absurd (z refl)) (λ g x y z. refl)
+
+  -- the refusals of a look are 1, 3 and 4
+  pub look-refusals : ((look_of l p s).decided.answer ≡ 1) ⊎ (((look_of l p s).decided.answer ≡ 3) ⊎ (((look_of l p s).decided.answer ≡ 4) ⊎ Verdict (look_of l p s).decided.answer))
+  look-refusals =
+      by-look (λ x. (x.decided.answer ≡ 1) ⊎ ((x.decided.answer ≡ 3) ⊎ ((x.decided.answer ≡ 4) ⊎ Verdict x.decided.answer)))
+      (inl refl) (inr (inl refl)) (inr (inr (inl refl))) (λ g. inr (inr (inr (one_of_three (row_for p (state_of l).rows) s))))
 
   pub look-goes-by : Verdict (decide_of l p s).answer → decide_of l p s ≡ decide (look_of l p s).row s
   look-goes-by v =

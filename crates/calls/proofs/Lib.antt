@@ -11,5 +11,5 @@ mod Others
 mod Areas
 mod Positions
 mod Readings
-mod Numbers
+pub mod Numbers
 pub mod Demands

@@ -37,7 +37,7 @@
 --     BothRecorded           streams of the same events on two areas opened alike, every event answered 0 in both
 --     Reordered              such streams keep their order, but for replies that pass each other, and give equal areas
 --     OneOutcome, OneDecision    any two outcomes that a call's contract allows are equal; so are any two of decide
-use Rattle.std.specs.Prelude.{◌≡◌, true, false, cond, List, [], ◌∷◌, ◌↔◌, ◌≢◌, ◌⊎◌, ℕ, suc, ◌+◌, ◌^◌, ◌≤◌, ◌<◌, T, leb, length}
+use Rattle.std.specs.Prelude.{◌≡◌, true, false, cond, List, [], ◌∷◌, ◌↔◌, ◌≢◌, ◌⊎◌, ℕ, suc, ◌+◌, ◌^◌, ◌≤◌, ◌<◌, T, leb, length, ⊤, Result}
 use Rattle.words.specs.Words.{Bytes}
 use Rattle.roles.specs.Sets.{Below}
 use Rattle.refusals.specs.Refusals.{Ground, ground, Exactly}
@@ -52,9 +52,10 @@ use Rattle.meaning.specs.Kinds.{happened}
 use Rattle.area.specs.Layout.{good_bytes}
 use Rattle.area.specs.State.{State, in_policy, GoodState, is_blank, row_for, state_of, area_of}
 use Rattle.calls.specs.Calls.{Out, valid, open_of, event_of, decide_of, look_of, forget_of}
-use Rattle.calls.specs.declared.Answer.{Answer}
-use Rattle.calls.specs.declared.Decided.{Decided}
-use Rattle.calls.specs.Answers.{Gives, decided_of}
+use Rattle.rows.specs.declared.Verdict as value
+use Rattle.calls.specs.declared.Refusal.{Refusal}
+use Rattle.calls.specs.declared.Kept.{Kept}
+use Rattle.calls.specs.Answers.{kept_number, done_number, number_of, Gives, decided_of}
 use Rattle.calls.specs.Histories.{Call, opening, event, ask, forget, out_of, Trail, longer, trail_on, trail_after, Past, called, area, answer_to, roles, policy, trail, PossibleOn, PossibleAfter, call_for, calls, after_calls, Rearranged, KeepsOrder, AllRecorded}
 
 -- ---- demand 1: any numbers and any lent bytes get a numbered answer, and every answer but 0 and 8 leaves the lent area as it came
@@ -260,8 +261,9 @@ pub record Reordered : Type 0 where
 
 -- ---- one outcome
 
-abbrev pub OneOutcome : Type 0
-OneOutcome = (o : Out) (r s : Answer) (l m : List ℕ) → Gives o r l → Gives o s m → (r ≡ s) × (l ≡ m)
+pub record OneOutcome : Type 0 where
+  pub events : (o : Out) (r s : Result Kept Refusal) (l m : List ℕ) → Gives o (number_of kept_number r) l → Gives o (number_of kept_number s) m → (r ≡ s) × (l ≡ m)
+  pub others : (o : Out) (r s : Result ⊤ Refusal) (l m : List ℕ) → Gives o (number_of done_number r) l → Gives o (number_of done_number s) m → (r ≡ s) × (l ≡ m)
 
 abbrev pub OneDecision : Type 0
-OneDecision = (d : meaning.Decided) (r s : Decided) → decided_of r ≡ d → decided_of s ≡ d → r ≡ s
+OneDecision = (d : meaning.Decided) (r s : Result value.Verdict Refusal) → decided_of r ≡ d → decided_of s ≡ d → r ≡ s

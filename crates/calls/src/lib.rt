@@ -1,16 +1,18 @@
-// The answers of the calls; `specs/Calls.antt` defines the calls themselves.
+// What the calls answer, and the numbers of their answers; `specs/Calls.antt` defines the calls themselves.
 #![tactic(auto)]
 
-ghost use Rattle.std.specs.Prelude.{◌≡◌};
-ghost use Rattle.meaning.specs.Rows.{bare};
-ghost use Rattle.calls.specs.Answers.{number_of, decided_of};
+ghost use Rattle.std.specs.Prelude.{◌≡◌, ℕ};
+ghost use Rattle.rows.specs.Stored as rows;
+ghost use Rattle.calls.specs.declared.Refusal.TheVariants.{BadVerdict};
+ghost use Rattle.calls.specs.Answers.{refusal_number, kept_number, done_number, verdict_number, number_of, decided_of};
 
+use meaning::UnknownKind;
 use roles::MOST_ROLES;
+use rows::Verdict;
 
-// What a call answers, and what a line that can't be read is answered; `number_of` has the numbers.
+// Why a call is refused; the area stays as it came.
 #[derive(Clone, Copy)]
-pub enum Answer {
-    Recorded,
+pub enum Refusal {
     BadArea,
     BadRoleCount,
     NoPermission,
@@ -18,51 +20,111 @@ pub enum Answer {
     BadVerdict,
     Contradiction,
     Full,
-    Forgotten,
-    Unreadable,
-    Deny,
-    Allow,
-    Undecided,
     Late,
     Ahead,
 }
 
-// What decide gives: its answer, and the role to ask about, which is MOST_ROLES where there is none.
-#[derive(Clone, Copy)]
-pub struct Decided {
-    pub answer: Answer,
-    pub role: u64,
-}
+impl From<rows::Refusal> for Refusal {
+    ghost from_gives = { λ r e. refusal_number e ≡ rows.refusal_number r };
 
-// An answer with no role to ask about.
-pub fn bare(answer: Answer) -> Decided
-    ensures { decided_of result ≡ bare (number_of answer) }
-{
-    Decided {
-        answer,
-        role: MOST_ROLES,
+    fn from(refusal: rows::Refusal) -> Refusal {
+        match refusal {
+            rows::Refusal::Contradiction => Refusal::Contradiction,
+            rows::Refusal::Full => Refusal::Full,
+        }
     }
 }
 
-// The number of an answer: Rules, Answers.
-pub fn number(r: Answer) -> u32
-    ensures { result ≡ number_of r }
+impl From<UnknownKind> for Refusal {
+    ghost from_gives = { λ _ e. e ≡ BadVerdict };
+
+    fn from(_kind: UnknownKind) -> Refusal {
+        Self::BadVerdict
+    }
+}
+
+// What became of an event that was not refused.
+#[derive(Clone, Copy)]
+pub enum Kept {
+    Recorded,
+    Forgotten,
+}
+
+// What is told as a number: Rules, Answers.
+pub trait Numbered {
+    ghost says: { Self → ℕ };
+
+    fn number(self) -> u32
+        ensures { result ≡ says self };
+}
+
+impl Numbered for Refusal {
+    ghost says = { refusal_number };
+
+    fn number(self) -> u32 {
+        match self {
+            Refusal::BadArea => 1,
+            Refusal::BadRoleCount => 2,
+            Refusal::NoPermission => 3,
+            Refusal::UnknownRole => 4,
+            Refusal::BadVerdict => 5,
+            Refusal::Contradiction => 6,
+            Refusal::Full => 7,
+            Refusal::Late => 13,
+            Refusal::Ahead => 14,
+        }
+    }
+}
+
+// A call that gives nothing more.
+impl Numbered for () {
+    ghost says = { done_number };
+
+    fn number(self) -> u32 {
+        0
+    }
+}
+
+impl Numbered for Kept {
+    ghost says = { kept_number };
+
+    fn number(self) -> u32 {
+        match self {
+            Kept::Recorded => 0,
+            Kept::Forgotten => 8,
+        }
+    }
+}
+
+impl Numbered for Verdict {
+    ghost says = { verdict_number };
+
+    fn number(self) -> u32 {
+        match self {
+            Verdict::Deny => 10,
+            Verdict::Allow => 11,
+            Verdict::Undecided(_) => 12,
+        }
+    }
+}
+
+impl<T: Numbered> Numbered for Result<T, Refusal> {
+    ghost says = { number_of T.says };
+
+    fn number(self) -> u32 {
+        match self {
+            Ok(given) => given.number(),
+            Err(refusal) => refusal.number(),
+        }
+    }
+}
+
+// The role to ask about; where a decision names none it is MOST_ROLES, in C and in an answer line too.
+pub fn role(decided: Result<Verdict, Refusal>) -> u64
+    ensures { result ≡ (decided_of decided).role }
 {
-    match r {
-        Answer::Recorded => 0,
-        Answer::BadArea => 1,
-        Answer::BadRoleCount => 2,
-        Answer::NoPermission => 3,
-        Answer::UnknownRole => 4,
-        Answer::BadVerdict => 5,
-        Answer::Contradiction => 6,
-        Answer::Full => 7,
-        Answer::Forgotten => 8,
-        Answer::Unreadable => 9,
-        Answer::Deny => 10,
-        Answer::Allow => 11,
-        Answer::Undecided => 12,
-        Answer::Late => 13,
-        Answer::Ahead => 14,
+    match decided {
+        Ok(Verdict::Undecided(role)) => role,
+        _ => MOST_ROLES,
     }
 }

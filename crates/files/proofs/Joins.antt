@@ -8,7 +8,7 @@ use lib.ListN.{length, take, length-append}
 use Rattle.io.specs.Counts.{IsPrefixLen}
 use Rattle.io.proofs.Counting.{prefix_len_of_le}
 use Rattle.text.specs.Write.{Wrote}
-use Rattle.text.proofs.WriteLaws.{wrote-length, wrote_then, front-text}
+use Rattle.text.proofs.WriteLaws.{wrote-length, front-text}
 use Rattle.files.specs.Messages.{Joined}
 
 -- as many bytes as were counted are the text
@@ -18,8 +18,7 @@ at_front d t {e} {p} h w =
     (prefix_len_of_le p e (omega (arith, long, wrote-length w)), ap (λ (k : ℕ). take k e) long ∙ ap (take (length t)) w.bytes ∙ front-text t d h)
 
 -- three texts from the start on
-pub joined : (d a n b : List ℕ) {e f g : List ℕ} {p q r : ℕ} → length a + length n + length b ≤ length d
-    → Wrote d 0 a e p → Wrote e p n f q → Wrote f q b g r → Joined a n b r g
-joined d a n b {e} {f} {g} {p} {q} {r} h x y z =
-    let front = at_front d ((a ++ n) ++ b) (omega (arith, length-append (a ++ n) b, length-append a n)) (wrote_then (wrote_then x y) z) in
+pub joined : (d a n b : List ℕ) {e : List ℕ} {p : ℕ} → length a + length n + length b ≤ length d → Wrote d 0 ((a ++ n) ++ b) e p → Joined a n b p e
+joined d a n b h w =
+    let front = at_front d ((a ++ n) ++ b) (omega (arith, length-append (a ++ n) b, length-append a n)) w in
     record { counts = front.0; text = front.1 }

@@ -1,10 +1,10 @@
 // Where a program for people meets the system: arguments, messages, files and standard input read. No contract can say what is in
 // a file, so these lines are to be believed: each call is made once, on the name that is handed in, and its answer is kept as it
-// is. Nothing else can make a `Loaded`.
-ghost use Rattle.std.specs.Prelude.{◌≡◌, ◌+◌, ◌≤◌, length, Some, pos, IsUtf8, MatchResult};
+// is. Nothing else can make a `Loaded`, and no function but `why` takes a `LoadError`.
+ghost use Rattle.std.specs.Prelude.{◌≡◌, length, Some, pos, IsUtf8, MatchResult};
 ghost use Rattle.std.specs.IoError.{raw_os_error};
 ghost use Rattle.io.specs.Counts.{IsPrefixLen};
-ghost use Rattle.files.specs.Loading.{Filled, LoadedInto};
+ghost use Rattle.files.specs.Loading.{ReadInto, LoadedInto, reason_of};
 
 use std::env::FillError;
 use std::fmt::InlineText;
@@ -12,7 +12,7 @@ use std::fs::File;
 use std::io::{Error, ErrorKind, Read};
 use std::rt::{Env, Files};
 
-// How many arguments there are, the program's own name among them.
+// How many arguments there are, the program's own name among them. `find` would be no plainer: each step asks the system.
 pub fn argument_count<E: Env>(env: &E) -> usize {
     for i in 0..usize::MAX {
         match env.arg(i, &mut []) {
@@ -23,14 +23,12 @@ pub fn argument_count<E: Env>(env: &E) -> usize {
     usize::MAX
 }
 
-// The argument of a number, at the start of the buffer, and its length; 0 where it is longer than the buffer.
+// The argument of a number, at the start of the buffer, and its length; 0 where it is longer than the buffer: no
+// word, name, number or set is empty, so each user refuses that in the case that it has for an empty one.
 pub fn argument<E: Env>(env: &E, i: usize, buf: &mut [u8]) -> usize
     ensures { IsPrefixLen result buf.new }
 {
-    match env.arg(i, buf) {
-        Ok(n) => n,
-        Err(_) => 0,
-    }
+    env.arg(i, buf).unwrap_or(0)
 }
 
 // A line to standard error.
@@ -68,21 +66,10 @@ pub fn path_of(name: &[u8]) -> std::io::Result<&str>
     }
 }
 
-// What stands for a reason where nothing failed.
-pub fn no_reason() -> Error
-    ensures { raw_os_error result ≡ Some (pos 0) }
-{
-    Error::from_raw_os_error(0)
-}
-
-// What came of reading a file: how many bytes it put at the start of the buffer; or that there is none of that name; or that
-// the system refused, and why.
+// How many bytes of a file stand at the start of the buffer that was lent for it.
 #[derive(Clone, Copy)]
 pub struct Loaded {
     bytes: usize,
-    missing: bool,
-    failed: bool,
-    why: Error,
 }
 
 impl Loaded {
@@ -91,96 +78,56 @@ impl Loaded {
     {
         self.bytes
     }
-
-    pub fn missing(self) -> bool
-        ensures { result ≡ self.missing }
-    {
-        self.missing
-    }
-
-    pub fn failed(self) -> bool
-        ensures { result ≡ self.failed }
-    {
-        self.failed
-    }
-
-    pub fn why(self) -> Error
-        ensures { result ≡ self.why }
-    {
-        self.why
-    }
 }
 
-// What one read answered: how many bytes it put behind the first n, none at the end of the file, or that it failed, and why.
+// Why a file is not loaded: there is none of that name, or the system refused to open or to read it.
 #[derive(Clone, Copy)]
-struct More {
-    bytes: usize,
-    failed: bool,
-    why: Error,
+pub enum LoadError {
+    Missing(Error),
+    Refused(Error),
 }
 
-fn read_more<F: Read>(file: &mut F, n: usize, buf: &mut [u8]) -> More
-    requires { n ≤ length buf.old }
-    ensures { n + result.bytes ≤ length buf.new }
-{
-    match file.read(&mut buf[n..]) {
-        Ok(got) => More {
-            bytes: got,
-            failed: false,
-            why: no_reason(),
-        },
-        Err(why) => More {
-            bytes: 0,
-            failed: true,
-            why,
-        },
+impl LoadError {
+    pub fn why(self) -> Error
+        ensures { result ≡ reason_of self }
+    {
+        match self {
+            LoadError::Missing(why) => why,
+            LoadError::Refused(why) => why,
+        }
     }
 }
 
-// Reads until the buffer is full, the file ends or a read fails.
-fn read_all<F: Read>(file: &mut F, buf: &mut [u8]) -> Loaded
-    ensures { Filled result buf.new }
+// Reads until the buffer is full, the file ends or a read fails. A read gives any number of bytes, so no index is counted.
+fn read_all<F: Read>(file: &mut F, buf: &mut [u8]) -> std::io::Result<Loaded>
+    ensures { ReadInto buf.old result buf.new }
 {
-    let mut n = 0;
-    let mut more = More {
-        bytes: 1,
-        failed: false,
-        why: no_reason(),
-    };
-    while n < buf.len() && 0 < more.bytes {
-        more = read_more(file, n, buf);
-        n += more.bytes;
+    let mut bytes = 0;
+    while bytes < buf.len() {
+        let got = file.read(&mut buf[bytes..])?;
+        if got == 0 {
+            break;
+        }
+        bytes += got;
     }
-    Loaded {
-        bytes: n,
-        missing: false,
-        failed: more.failed,
-        why: more.why,
-    }
+    Ok(Loaded { bytes })
 }
 
 // Standard input, as far as the buffer takes it.
-pub fn read_input<F: Read>(input: &mut F, buf: &mut [u8]) -> Loaded
-    ensures { Filled result buf.new }
+pub fn read_input<F: Read>(input: &mut F, buf: &mut [u8]) -> std::io::Result<Loaded>
+    ensures { ReadInto buf.old result buf.new }
 {
     read_all(input, buf)
 }
 
 // The file of a name, as far as the buffer takes it.
-pub fn load<R: Files>(files: &R, name: &[u8], buf: &mut [u8]) -> Loaded
+pub fn load<R: Files>(files: &R, name: &[u8], buf: &mut [u8]) -> Result<Loaded, LoadError>
     ensures { LoadedInto buf.old result buf.new }
 {
     match open_read(files, name) {
-        Ok(mut file) => read_all(&mut file, buf),
-        Err(why) => {
-            let missing = why.kind() == ErrorKind::NotFound;
-            Loaded {
-                bytes: 0,
-                missing,
-                failed: !missing,
-                why,
-            }
-        }
+        Ok(mut file) => read_all(&mut file, buf).map_err(LoadError::Refused),
+        Err(why) if why.kind() == ErrorKind::NotFound => Err(LoadError::Missing(why)),
+        Err(why) => Err(LoadError::Refused(why)),
     }
 }
 

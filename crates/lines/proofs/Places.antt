@@ -1,9 +1,11 @@
 -- The places that a line read comes to. Assumes nothing.
-use Rattle.std.proofs.Common.{◌≡◌, ℕ, suc, ◌+◌, ◌-◌, ◌<◌, ◌≤◌, true, false, ltb, List, [], ◌++◌, length, take, drop, sym, refl, ap, ◌∙◌, subst, arith, length-append, length-drop, drop_of_length-le, take_all, drop-drop, le-ltb, lt-ltb, le-leb}
+use Rattle.std.proofs.Common.{◌≡◌, ℕ, suc, ◌+◌, ◌-◌, ◌<◌, ◌≤◌, min, Bool, true, false, cond, ltb, List, [], ◌++◌, length, take, drop, sym, refl, ap, ◌∙◌, subst, arith, length-append, length-drop, drop_of_length-le, take_all, drop-drop, le-ltb, lt-ltb, le-leb}
 use mathlib.Core.Path.{subst⁻¹}
-use Rattle.area.specs.Layout.{most_rows}
+use Rattle.area.specs.Layout.{most_rows, good_bytes}
+use Rattle.walker.specs.Walk.{first_row}
 use Rattle.text.proofs.WriteLaws.{wrote_nothing}
 use Rattle.requests.specs.declared.Request.{Request}
+use Rattle.requests.specs.declared.Request.TheVariants.{Open, Told, Decide, Forget, Show, Unreadable}
 use Rattle.split.specs.Split as split
 use Rattle.text.specs.Lines.{before_lf}
 use Rattle.split.specs.Split.{held_all, said, held_in}
@@ -14,9 +16,22 @@ use Rattle.answers.specs.Show.{Shows}
 use Rattle.answers.specs.Answers.{answer_of, first_shown, Answers}
 use Rattle.answers.specs.declared.show.Shown.{Shown}
 use Rattle.lines.specs.Written.{next_number}
-use Rattle.lines.specs.Run.{Place, at_row, asked, answered, line_read, line_text, turned, turn_text, goes_on, Takes, none_more, one_more, placed, Ready, Comes}
+use Rattle.lines.specs.Run.{Place, at_row, asked, answered, line_read, line_text, turned, turn_text, goes_on, Takes, none_more, one_more, row_number, placed, Ready, Comes}
 use Rattle.lines.specs.declared.Progress.{Progress}
-use Rattle.lines.proofs.Rows.{shows-takes, shows-settled}
+use Rattle.lines.proofs.Rows.{shows-named, shows-takes, shows-settled}
+
+first-most : (l : List ℕ) (q : Request) → min (first_shown l q) most_rows ≡ first_shown l q
+unfolding first_shown first_row
+first-most l (Open n g) = refl
+first-most l (Told e) = refl
+first-most l (Decide p s) = refl
+first-most l (Forget p) = refl
+first-most l Show = go (good_bytes l)
+  where
+    go : (t : Bool) → min (cond t 0 most_rows) most_rows ≡ cond t 0 most_rows
+    go true = refl
+    go false = refl
+first-most l Unreadable = refl
 
 -- ---- a line read is a turn
 
@@ -26,15 +41,15 @@ module _ (p : Progress) (l bs d : List ℕ) (ready : Ready p bs d) where
   line-goes =
       let room : most_text ≤ length d - p.written = let r = ready.room in omega arith in
       let input : 0 < length (drop p.read bs) = let r = ready.read in omega (arith, length-drop p.read bs) in
-      rw (le-leb most_text (length d - p.written) room, le-ltb p.run.row most_rows ready.shown, lt-ltb 0 (length (drop p.read bs)) input) refl
+      rw (le-leb most_text (length d - p.written) room, ready.row, lt-ltb 0 (length (drop p.read bs)) input) refl
 
   line-turned : turned (placed p l bs) ≡ line_read (placed p l bs)
   unfolding turned
-  line-turned = rw (le-ltb p.run.row most_rows ready.shown) refl
+  line-turned = rw ready.row refl
 
   line-text : turn_text (placed p l bs) ≡ line_text (placed p l bs)
   unfolding turn_text
-  line-text = rw (le-ltb p.run.row most_rows ready.shown) refl
+  line-text = rw ready.row refl
 
   -- what follows the turn, after it
   line-takes : {m k : Place} {t u : List ℕ} → line_read (placed p l bs) ≡ m → line_text (placed p l bs) ≡ t → Takes (length d - p.written - length t) m k u → Takes (length d - p.written) (placed p l bs) k (t ++ u)
@@ -80,7 +95,8 @@ module _ (p : Progress) (l bs d : List ℕ) (e : ℕ) (ready : Ready p bs d) (en
       read = end-inside;
       wrote = wrote_nothing d p.written;
       inside = let r = ready.room in omega arith;
-      settled = λ h. ready.shown;
+      settled = λ h. rw ready.row (omega arith);
+      row = rw ready.row refl;
       takes = line-takes p l bs d ready kept-place kept-text none_more;
     }
 
@@ -107,7 +123,7 @@ module _ (p : Progress) (l bs d : List ℕ) (e : ℕ) (ready : Ready p bs d) (en
     unfolding line_text
     answered-text = rw (ends, asked-q) refl
 
-    shown-place : at_row (answered (placed p l bs) q) a.row ≡ placed goes-on-at l' bs
+    shown-place : at_row (answered (placed p l bs) q) (row_number a.row) ≡ placed goes-on-at l' bs
     shown-place =
         let behind : drop (e + 1) bs ≡ drop (suc (before_lf (drop p.read bs))) (drop p.read bs) =
         ap (λ (n : ℕ). drop n bs) (let n : e + 1 ≡ p.read + suc (before_lf (drop p.read bs)) = omega arith in n) ∙ sym (drop-drop (suc (before_lf (drop p.read bs))) p.read bs) in
@@ -118,7 +134,8 @@ module _ (p : Progress) (l bs d : List ℕ) (e : ℕ) (ready : Ready p bs d) (en
     shown-rows =
         let room : length d - (p.written + length answer) ≡ length d - p.written - length answer = omega arith in
         subst (λ (x : Place). Takes (length d - p.written - length answer) (answered (placed p l bs) q) x answers.written.text) shown-place
-        (shows-takes (answered (placed p l bs) q) (subst (λ (n : ℕ). Shows (answer_of l q).area n (first_shown l q) a.row answers.written.text) room answers.written.shows))
+        (subst (λ (i : ℕ). Takes (length d - p.written - length answer) (at_row (answered (placed p l bs) q) i) (at_row (answered (placed p l bs) q) (row_number a.row)) answers.written.text) (first-most l q)
+        (shows-takes (answered (placed p l bs) q) (subst (λ (n : ℕ). Shows (answer_of l q).area n (first_shown l q) a.row answers.written.text) room answers.written.shows)))
 
     pub line-answered : Comes p l bs d goes-on-at l' d'
     line-answered = record {
@@ -128,5 +145,6 @@ module _ (p : Progress) (l bs d : List ℕ) (e : ℕ) (ready : Ready p bs d) (en
       wrote = answers.written.wrote;
       inside = answers.written.inside;
       settled = λ h. shows-settled answers.written.shows (let n = answers.written.wrote.next in let m = length-append answer answers.written.text in omega arith);
+      row = shows-named answers.written.shows;
       takes = line-takes p l bs d ready answered-place answered-text shown-rows;
     }

@@ -7,6 +7,7 @@ use Rattle.text.specs.Lines.{before_lf}
 use Rattle.split.specs.Split.{Held, none, is_none, held_all, whole}
 use Rattle.lines.specs.Written.{lines_write}
 use Rattle.answers.specs.Texts.{most_text}
+use Rattle.answers.specs.Show.{row_left}
 use Rattle.lines.specs.Run.{Place, showing, row_shown, line_read, turned, turn_text, goes_on, Advances, stops, turns}
 use Rattle.lines.specs.Program.{start, idle, fed_with, Runs, writes, reads, closes, ends, InRoom, Partly, so_far, within, wrote, read, closed, Prefix, ProgramRuns, AdvancedOne}
 use Rattle.lines.proofs.Turns.{still_to, advances-still, advances-one}
@@ -26,7 +27,7 @@ advanced-one r l bs d p q l₁ l₂ e₁ e₂ a b =
       written = a.wrote.next ∙ ap (λ (t : List ℕ). 0 + length t) one.1 ∙ sym b.wrote.next;
       held = ap (λ (k : Place). k.held) one.0;
       number = ap (λ (k : Place). k.number) one.0;
-      row = ap (λ (k : Place). k.row) one.0;
+      row = a.row ∙ ap (λ (i : ℕ). cond (ltb (length d) most_text) r.row (row_left i)) (ap (λ (k : Place). k.row) one.0) ∙ sym b.row;
     }
 
 -- ---- a run up to any moment

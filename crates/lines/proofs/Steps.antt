@@ -1,19 +1,22 @@
 -- Turns of the code, one after another: each goes on from where the one before came to, and they end. Assumes nothing.
-use Rattle.std.proofs.Common.{◌≡◌, ℕ, suc, ◌+◌, ◌-◌, ◌*◌, ◌<◌, ◌≤◌, Bool, true, false, cond, ◌&&◌, ◌||◌, ltb, leb, List, [], ◌++◌, length, drop, sym, refl, ap, ◌∙◌, subst, true≢false, append-nil, arith, length-drop, ltb-false, ltb-true, le-ltb, lt-ltb, le-leb, leb-true}
+use Rattle.std.proofs.Common.{◌≡◌, ℕ, suc, ◌+◌, ◌-◌, ◌*◌, ◌<◌, ◌≤◌, min, Option, Some, None, Bool, true, false, cond, ◌&&◌, ◌||◌, ltb, leb, List, [], ◌++◌, length, drop, sym, refl, ap, ◌∙◌, subst, true≢false, append-nil, arith, length-drop, ltb-false, ltb-true, le-ltb, lt-ltb, le-leb, leb-true}
 use mathlib.Core.Path.{subst⁻¹}
+use mathlib.Core.Logic.{by_cases}
+use native.Mathlib.Decide.{dec_lt}
 use borrow.Author.Tests.{lt-leb}
 use Rattle.area.specs.Layout.{most_rows, good_bytes}
 use Rattle.walker.specs.Walk.{walked, go_on_at}
-use Rattle.walker.proofs.WalkLaws.{walked-bad, go_on_at-good, go_on_at-bad}
+use Rattle.walker.proofs.WalkLaws.{good-or-bad, walked-bad, go_on_at-good, go_on_at-bad}
 use Rattle.text.specs.Write.{Wrote}
 use Rattle.text.proofs.WriteLaws.{wrote_then, wrote-length, wrote_nothing}
 use Rattle.text.specs.Lines.{before_lf}
 use Rattle.answers.specs.Texts.{most_text}
+use Rattle.answers.specs.Show.{row_left}
 use Rattle.answers.proofs.ShowLaws.{both}
-use Rattle.lines.specs.Run.{Place, place_of, showing, row_there, row_shown, shown_text, line_ends, asked, answered, kept, line_read, turned, turn_text, goes_on, Advances, stops, turns, Takes, none_more, run_at, row_to_show, placed, Settled, Ready, Comes, RestShown, Advanced}
+use Rattle.lines.specs.Run.{Place, row_number, before, at_row, place_of, showing, row_there, row_shown, shown_text, line_ends, asked, answered, kept, line_read, turned, turn_text, goes_on, Advances, stops, turns, Takes, none_more, run_at, row_to_show, placed, Settled, Comes, RestShown, Advanced}
 use Rattle.lines.specs.declared.Run.{Run}
 use Rattle.lines.specs.declared.Progress.{Progress}
-use Rattle.lines.proofs.Rows.{takes-then, takes-advances, shows-takes, shows-settled}
+use Rattle.lines.proofs.Rows.{takes-then, takes-advances, shows-named, shows-takes, shows-settled}
 
 -- ---- the code's test
 
@@ -29,8 +32,8 @@ pub test-is : (p : Progress) (l bs : List ℕ) (room : ℕ) → Settled room p �
 unfolding goes_on
 test-is p l bs room settled = go (leb most_text (room - p.written)) refl
   where
-    go : (t : Bool) → leb most_text (room - p.written) ≡ t → (t && ltb p.read (length bs)) ≡ (t && (ltb p.run.row most_rows || ltb 0 (length (drop p.read bs))))
-    go true e = rw (le-ltb p.run.row most_rows (settled (leb-true most_text (room - p.written) e))) (ltb-rest p.read bs)
+    go : (t : Bool) → leb most_text (room - p.written) ≡ t → (t && ltb p.read (length bs)) ≡ (t && (ltb (row_number p.run.row) most_rows || ltb 0 (length (drop p.read bs))))
+    go true e = rw (le-ltb (row_number p.run.row) most_rows (settled (leb-true most_text (room - p.written) e))) (ltb-rest p.read bs)
     go false e = refl
 
 either : (a b : Bool) → (a || b) ≡ true → a ≡ false → b ≡ true
@@ -79,6 +82,7 @@ pub record Midway (l₀ bs d₀ : List ℕ) (p₀ : Progress) (l d : List ℕ) (
   pub wrote : Wrote d₀ p₀.written text d p.written
   pub inside : p.written ≤ length d₀
   pub settled : Settled (length d₀) p
+  pub row : p.run.row ≡ row_left (row_number p.run.row)
   pub takes : Takes (length d₀ - p₀.written) (placed p₀ l₀ bs) (placed p l bs) text
 
 -- the code's test
@@ -86,12 +90,6 @@ abbrev pub goes_on_lem : ℕ → List ℕ → Progress → Bool
 goes_on_lem room bs p = leb most_text (room - p.written) && ltb p.read (length bs)
 
 module _ (l₀ bs d₀ : List ℕ) (p₀ : Progress) (l d : List ℕ) (p : Progress) (m : Midway l₀ bs d₀ p₀ l d p) where
-  pub midway-ready : goes_on_lem (length d₀) bs p ≡ true → Ready p bs d
-  midway-ready g =
-      let t = both (leb most_text (length d₀ - p.written)) (ltb p.read (length bs)) g in
-      let room = leb-true most_text (length d₀ - p.written) t.0 in
-      record { read = ltb-true p.read (length bs) t.1; room = omega (arith, room, wrote-length m.wrote); shown = m.settled room }
-
   pub midway-next : (l' d' : List ℕ) (r : Progress) → Comes p l bs d r l' d' → Midway l₀ bs d₀ p₀ l' d' r
   midway-next l' d' r c =
       let long = wrote-length m.wrote in
@@ -101,42 +99,47 @@ module _ (l₀ bs d₀ : List ℕ) (p₀ : Progress) (l d : List ℕ) (p : Progr
         wrote = wrote_then m.wrote c.wrote;
         inside = rw (← long) c.inside;
         settled = λ h. c.settled (omega arith);
+        row = c.row;
         takes = takes-then m.takes (subst (λ (n : ℕ). Takes n (placed p l bs) (placed r l' bs) c.text) room c.takes);
       }
 
 -- ---- before the first turn
 
-pub no_room : (r : Run) (l bs d : List ℕ) → length d < most_text → Advanced r l bs d (record { run = r; read = 0; written = 0 }) l d
+pub no_room : (r : Run) (l bs d : List ℕ) → length d < most_text → Advanced r l bs d (before r) l d
 unfolding goes_on
 no_room r l bs d h = let stopped : goes_on (length d) (place_of r l bs) ≡ false = rw (lt-leb most_text (length d) h) refl in record {
   text = [];
   read = omega arith;
   wrote = record { bytes = refl; next = refl };
   inside = omega arith;
+  row = rw (lt-ltb (length d) most_text h) refl;
   goes = stops stopped;
 }
 
 -- a bad area shows no row in its one turn
-module _ (r : Run) (l bs : List ℕ) (room : ℕ) (h : most_text ≤ room) (k : Place) (t : List ℕ) where
-  skipped : r.row < most_rows → good_bytes l ≡ false → Advances room (place_of (run_at r most_rows) l bs) k t → Advances room (place_of r l bs) k t
+module _ (room : ℕ) (h : most_text ≤ room) (k : Place) (t : List ℕ) where
+  skipped : (m : Place) → m.row < most_rows → good_bytes m.area ≡ false → Advances room (at_row m most_rows) k t → Advances room m k t
   unfolding goes_on turned turn_text row_shown shown_text
-  skipped i e a =
-      let m = place_of r l bs in
-      let no : ltb r.row (length (walked l)) ≡ false = le-ltb r.row (length (walked l)) (let z = walked-bad l e in omega arith) in
-      let goes : goes_on room m ≡ true = rw (le-leb most_text room h, lt-ltb r.row most_rows i) refl in
-      let text : turn_text m ≡ [] = rw (lt-ltb r.row most_rows i, no) refl in
-      let place : turned m ≡ place_of (run_at r most_rows) l bs = rw (lt-ltb r.row most_rows i, no) refl in
+  skipped m i e a =
+      let no : ltb m.row (length (walked m.area)) ≡ false = le-ltb m.row (length (walked m.area)) (let z = walked-bad m.area e in omega arith) in
+      let goes : goes_on room m ≡ true = rw (le-leb most_text room h, lt-ltb m.row most_rows i) refl in
+      let text : turn_text m ≡ [] = rw (lt-ltb m.row most_rows i, no) refl in
+      let place : turned m ≡ at_row m most_rows = rw (lt-ltb m.row most_rows i, no) refl in
       let same : room - length (turn_text m) ≡ room = rw text (omega arith) in
       subst (λ (x : List ℕ). Advances room m k (x ++ t)) text
       (turns goes (subst⁻¹ (λ (n : ℕ). Advances n (turned m) k t) same (subst⁻¹ (λ (x : Place). Advances room x k t) place a)))
 
-  row_to_show-goes : Advances room (place_of (run_at r (row_to_show l r.row)) l bs) k t → Advances room (place_of r l bs) k t
-  row_to_show-goes a = go (ltb r.row most_rows) refl (good_bytes l) refl a
-    where
-      go : (s : Bool) → ltb r.row most_rows ≡ s → (g : Bool) → good_bytes l ≡ g → Advances room (place_of (run_at r (cond s (go_on_at l r.row) r.row)) l bs) k t → Advances room (place_of r l bs) k t
-      go true e true f b = subst (λ (i : ℕ). Advances room (place_of (run_at r i) l bs) k t) (go_on_at-good l r.row f) b
-      go true e false f b = skipped (ltb-true r.row most_rows e) f (subst (λ (i : ℕ). Advances room (place_of (run_at r i) l bs) k t) (go_on_at-bad l r.row f) b)
-      go false e g f b = b
+  module _ (m : Place) where
+    left-goes : (i : ℕ) → Advances room (at_row m (min (go_on_at m.area i) most_rows)) k t → Advances room (at_row m (min i most_rows)) k t
+    left-goes i a = good-or-bad m.area
+        (λ g. subst (λ (j : ℕ). Advances room (at_row m (min j most_rows)) k t) (go_on_at-good m.area i g) a)
+        (λ b. let none = subst (λ (j : ℕ). Advances room (at_row m (min j most_rows)) k t) (go_on_at-bad m.area i b) a in by_cases (dec_lt i most_rows)
+        (λ below. skipped (at_row m (min i most_rows)) (omega arith) b none)
+        (λ above. let past : most_rows ≡ min i most_rows = omega arith in subst (λ (j : ℕ). Advances room (at_row m j) k t) past none))
+
+    row_to_show-goes : (o : Option ℕ) → Advances room (at_row m (min (row_to_show m.area o) most_rows)) k t → Advances room (at_row m (row_number o)) k t
+    row_to_show-goes None a = a
+    row_to_show-goes (Some i) a = left-goes i a
 
 -- the rows left from before come first
 module _ (w : Run) (l bs d : List ℕ) (p₀ : Progress) (e₀ : List ℕ) (c : RestShown w l d p₀ e₀) where
@@ -150,6 +153,7 @@ module _ (w : Run) (l bs d : List ℕ) (p₀ : Progress) (e₀ : List ℕ) (c : 
     wrote = wrote_nothing e₀ p₀.written;
     inside = rw long₀ c.rows.inside;
     settled = λ k. shows-settled c.rows.shows (let n = c.rows.wrote.next in let m = long₀ in omega arith);
+    row = shows-named c.rows.shows;
     takes = none_more;
   }
 
@@ -161,7 +165,7 @@ module _ (w : Run) (l bs d : List ℕ) (p₀ : Progress) (e₀ : List ℕ) (c : 
         let place : placed p₀ l bs ≡ place_of (run_at w row) l bs = ap (λ (x : Run). place_of x l (drop p₀.read bs)) c.run ∙ ap (λ (n : ℕ). place_of (run_at w row) l (drop n bs)) c.read in
         let left : length e₀ - p₀.written ≡ length d - 0 - length text = let n = c.rows.wrote.next in let m = long₀ in omega arith in
         let whole : length d - 0 ≡ length d = omega arith in
-        row_to_show-goes w l bs (length d) h k (text ++ t) (subst (λ (n : ℕ). Advances n (place_of (run_at w (row_to_show l w.row)) l bs) k (text ++ t)) whole
+        row_to_show-goes (length d) h k (text ++ t) (place_of w l bs) w.row (subst (λ (n : ℕ). Advances n (at_row (place_of w l bs) (min (row_to_show l w.row) most_rows)) k (text ++ t)) whole
         (takes-advances (shows-takes (place_of w l bs) c.rows.shows) (subst (λ (n : ℕ). Advances n (place_of (run_at w row) l bs) k t) left (subst (λ (x : Place). Advances (length e₀ - p₀.written) x k t) place a))))
 
     pub midway_end : (l' e : List ℕ) (p : Progress) → Midway l bs e₀ p₀ l' e p → goes_on_lem (length e₀) bs p ≡ false → Advanced w l bs d p l' e
@@ -172,5 +176,6 @@ module _ (w : Run) (l bs d : List ℕ) (p₀ : Progress) (e₀ : List ℕ) (c : 
           read = m.read;
           wrote = wrote_then c.rows.wrote m.wrote;
           inside = rw (← long₀) m.inside;
+          row = rw (le-ltb (length d) most_text h) m.row;
           goes = rest_goes (placed p l' bs) m.text (subst (Advances (length e₀ - p₀.written) (placed p₀ l bs) (placed p l' bs)) (append-nil m.text) (takes-advances m.takes (stops stopped)));
         }

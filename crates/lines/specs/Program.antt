@@ -1,7 +1,7 @@
 -- A whole run, on any area: what it writes and the area that it leaves depend on that area and the bytes of its input alone,
 -- however they come in pieces and however often the buffer is emptied.
 --     start l            before the first byte, on the area l
---     Starts r           the run r stands before the first byte, on whatever area
+--     Starts r           the run r names no row, and stands before the first byte, on whatever area
 --     idle               all that came in is read, and all that is to be shown is shown
 --     fed_with m bs      the place m with the bytes bs to be read
 --     Runs m ps t l      from m on, fed with the pieces ps, the program writes t and ends, and leaves the area l
@@ -13,7 +13,7 @@
 --     ProgramRuns        every input has a run, with buffers of any room that is enough for a turn
 --     Prefix             what is written so far is a beginning of what a whole run writes
 --     AdvancedOne        the contract of advance allows one outcome
-use Rattle.std.specs.Prelude.{◌≡◌, ℕ, ◌≤◌, Bool, true, false, not, ◌&&◌, List, [], ◌∷◌, ◌++◌, length, ◌==◌}
+use Rattle.std.specs.Prelude.{◌≡◌, ℕ, ◌≤◌, Bool, true, false, not, ◌&&◌, List, [], ◌∷◌, ◌++◌, length, ◌==◌, None}
 use Rattle.area.specs.Layout.{most_rows}
 use Rattle.text.specs.Ascii.{lf}
 use Rattle.split.specs.Split.{none, is_none, whole, held_in}
@@ -27,7 +27,7 @@ abbrev pub start : List ℕ → Place
 start l = record { held = none; number = 1; row = most_rows; area = l; input = [] }
 
 abbrev pub Starts : Run → Type 0
-Starts r = (l : List ℕ) → place_of r l [] ≡ start l
+Starts r = (r.row ≡ None) × ((l : List ℕ) → place_of r l [] ≡ start l)
 
 abbrev pub idle : Place → Bool
 idle m = not (showing m) && length m.input == 0

@@ -1,6 +1,7 @@
 -- The line program in the middle of its input, and one turn of it.
 --     Place                  what it has come to: the line so far and its number, the next row to be shown, the area, the bytes that it
 --                            has not read yet
+--     row_number             the number of the next row that the code names; none, and each number that no row has, is most_rows
 --     place_of               the place that the code has come to
 --     showing                there may be rows to be shown
 --     row_there, at_row      there is a row of that number; the place with another row
@@ -12,10 +13,12 @@
 --     goes_on room m         a turn is taken while there is something to do, and room for what it writes
 --     Advances room m k t    turns are taken from m on as long as it goes on: they come to k and write t
 --     Takes room m k t       turns are taken from m on: they come to k and write t
---     run_at, row_to_show    a run at another row; the row to go on with, where a bad area has none
+--     run_at, row_to_show    a run at another row; the number to go on with, where a bad area has no row
+--     before r               the run r before the piece is read
 --     placed, Settled        where the code has come to; rows are left to be shown only where there is no room
---     Ready, Comes, RestShown, Advanced    what the functions of the code ask and promise
-use Rattle.std.specs.Prelude.{◌≡◌, ℕ, suc, ◌+◌, ◌-◌, ◌<◌, ◌≤◌, Bool, true, false, cond, ◌&&◌, ◌||◌, List, [], ◌++◌, length, take, drop, nat_le, nat_lt}
+--     Ready, Comes, RestShown, Advanced    what the functions of the code ask and promise. Without room the row stays as it came; with room
+--                            a number that no row has is none
+use Rattle.std.specs.Prelude.{◌≡◌, ℕ, suc, ◌+◌, ◌-◌, ◌<◌, ◌≤◌, min, Bool, true, false, cond, ◌&&◌, ◌||◌, List, [], ◌++◌, length, take, drop, nat_le, nat_lt, Option, Some, None}
 use Rattle.area.specs.Layout.{most_rows}
 use Rattle.walker.specs.Walk.{walked, go_on_at}
 use Rattle.text.specs.Write.{Wrote}
@@ -24,7 +27,7 @@ use Rattle.text.specs.Lines.{before_lf}
 use Rattle.split.specs.Split.{Held, none, held_all, said, held_in}
 use Rattle.answers.specs.Answers.{answer_of, first_shown}
 use Rattle.answers.specs.Texts.{most_text, answer_text}
-use Rattle.answers.specs.Show.{row_after, row_text_at, RowsShown}
+use Rattle.answers.specs.Show.{row_after, row_text_at, row_left, RowsShown}
 use Rattle.lines.specs.Written.{next_number}
 use Rattle.lines.specs.declared.Run.{Run}
 use Rattle.lines.specs.declared.Progress.{Progress}
@@ -36,8 +39,12 @@ pub record Place : Type 0 where
   pub area : List ℕ
   pub input : List ℕ
 
+abbrev pub row_number : Option ℕ → ℕ
+row_number None = most_rows
+row_number (Some i) = min i most_rows
+
 abbrev pub place_of : Run → List ℕ → List ℕ → Place
-place_of r l bs = record { held = held_in r.line; number = r.number; row = r.row; area = l; input = bs }
+place_of r l bs = record { held = held_in r.line; number = r.number; row = row_number r.row; area = l; input = bs }
 
 -- ---- a row shown
 
@@ -98,12 +105,16 @@ pub data Takes : ℕ → Place → Place → List ℕ → Type 0 where
 -- ---- what the code's functions promise
 
 -- the run r at another row
-abbrev pub run_at : Run → ℕ → Run
+abbrev pub run_at : Run → Option ℕ → Run
 run_at r i = record { line = r.line; number = r.number; row = i }
 
 -- a bad area has no row to be shown
-abbrev pub row_to_show : List ℕ → ℕ → ℕ
-row_to_show l i = cond (nat_lt i most_rows) (go_on_at l i) i
+abbrev pub row_to_show : List ℕ → Option ℕ → ℕ
+row_to_show l None = most_rows
+row_to_show l (Some i) = go_on_at l i
+
+abbrev pub before : Run → Progress
+before r = record { run = r; read = 0; written = 0 }
 
 -- where the code has come to on the area l, in the piece bs
 abbrev pub placed : Progress → List ℕ → List ℕ → Place
@@ -111,13 +122,13 @@ placed p l bs = place_of p.run l (drop p.read bs)
 
 -- in a buffer of n bytes
 abbrev pub Settled : ℕ → Progress → Type 0
-Settled n p = most_text ≤ n - p.written → most_rows ≤ p.run.row
+Settled n p = most_text ≤ n - p.written → most_rows ≤ row_number p.run.row
 
 -- a line can be read in the piece bs, and answered into the buffer d
 pub record Ready (p : Progress) (bs d : List ℕ) : Type 0 where
   pub read : p.read < length bs
   pub room : p.written + most_text ≤ length d
-  pub shown : most_rows ≤ p.run.row
+  pub row : p.run.row ≡ None
 
 -- from p on the area l, in the piece bs, into the buffer d, turns come to r; l' and e are the area and the buffer afterwards
 pub record Comes (p : Progress) (l bs d : List ℕ) (r : Progress) (l' e : List ℕ) : Type 0 where
@@ -127,6 +138,7 @@ pub record Comes (p : Progress) (l bs d : List ℕ) (r : Progress) (l' e : List 
   pub wrote : Wrote d p.written text e r.written
   pub inside : r.written ≤ length d
   pub settled : Settled (length d) r
+  pub row : r.run.row ≡ row_left (row_number r.run.row)
   pub takes : Takes (length d - p.written) (placed p l bs) (placed r l' bs) text
 
 -- the rows that the run w has left to be shown are, from the start of the buffer d on, as far as there is room
@@ -141,4 +153,5 @@ pub record Advanced (r : Run) (l bs d : List ℕ) (p : Progress) (l' e : List �
   pub read : p.read ≤ length bs
   pub wrote : Wrote d 0 text e p.written
   pub inside : p.written ≤ length d
+  pub row : p.run.row ≡ cond (nat_lt (length d) most_text) r.row (row_left (row_number p.run.row))
   pub goes : Advances (length d) (place_of r l bs) (placed p l' bs) text

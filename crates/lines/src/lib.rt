@@ -2,8 +2,9 @@
 #![tactic(auto)]
 
 ghost use Rattle.std.specs.Prelude.{◌≡◌, ◌-◌, ◌≤◌, ◌&&◌, nat_le, nat_lt};
+ghost use Rattle.area.specs.Layout.{most_rows};
 ghost use Rattle.answers.specs.Texts.{most_text};
-ghost use Rattle.lines.specs.Run.{Ready, Comes, RestShown, Advanced};
+ghost use Rattle.lines.specs.Run.{row_number, before, Ready, Comes, RestShown, Advanced};
 ghost use Rattle.lines.specs.Program.{Starts};
 
 use answers::show::from_row;
@@ -12,12 +13,21 @@ use area::MOST_ROWS;
 use split::{Splitter, asked};
 use text::line_end;
 
-// The line so far, its number, and the next row to be shown; MOST_ROWS and more stand for none.
+// The line so far, its number, and the next row to be shown. No row has a number from MOST_ROWS on.
 #[derive(Clone, Copy)]
 pub struct Run {
     pub line: Splitter,
     pub number: u64,
-    pub row: usize,
+    pub row: Option<usize>,
+}
+
+impl Run {
+    // Whether rows may be left to be shown.
+    pub fn is_showing(self) -> bool
+        ensures { result ≡ nat_lt (row_number self.row) most_rows }
+    {
+        self.row.is_some_and(|row| row < MOST_ROWS)
+    }
 }
 
 // Where a run has come to: how many bytes of the piece are read, and how many of the buffer written.
@@ -28,6 +38,18 @@ pub struct Progress {
     pub written: usize,
 }
 
+impl Progress {
+    fn before(run: Run) -> Progress
+        ensures { result ≡ before run }
+    {
+        Progress {
+            run,
+            read: 0,
+            written: 0,
+        }
+    }
+}
+
 // Before the first byte, on whatever area.
 pub fn start() -> Run
     ensures { Starts result }
@@ -35,7 +57,7 @@ pub fn start() -> Run
     Run {
         line: Splitter::new(),
         number: 1,
-        row: MOST_ROWS,
+        row: None,
     }
 }
 
@@ -43,24 +65,17 @@ pub fn start() -> Run
 fn show_rest(run: Run, area: &[u8], out: &mut [u8]) -> Progress
     ensures { RestShown run area.now out.old result out.new }
 {
-    let line = run.line;
-    let row = run.row;
-    if row < MOST_ROWS {
-        let s = from_row(area, row, out, 0);
-        return Progress {
-            run: Run {
-                line,
-                number: run.number,
-                row: s.row,
-            },
-            read: 0,
-            written: s.written,
-        };
-    }
+    let Some(row) = run.row else {
+        return Progress::before(run);
+    };
+    let shown = from_row(area, row, out, 0);
     Progress {
-        run,
+        run: Run {
+            row: shown.row,
+            ..run
+        },
         read: 0,
-        written: 0,
+        written: shown.written,
     }
 }
 
@@ -70,34 +85,32 @@ fn read_line(p: Progress, area: &mut [u8], piece: &[u8], out: &mut [u8]) -> Prog
     ensures { Comes p area.old piece.now out.old result area.new out.new }
 {
     let run = p.run;
-    let line = run.line;
-    let number = run.number;
-    let at = p.read;
-    let end = line_end(piece, at);
+    let end = line_end(piece, p.read);
+    let part = &piece[p.read..end];
     if end == piece.len() {
         return Progress {
             run: Run {
-                line: line.then(&piece[at..end]),
-                number,
-                row: run.row,
+                line: run.line.then(part),
+                ..run
             },
             read: end,
-            written: p.written,
+            ..p
         };
     }
-    let s = answer(area, asked(line, &piece[at..end]), number, out, p.written);
+    let shown = answer(area, asked(run.line, part), run.number, out, p.written);
     Progress {
         run: Run {
             line: Splitter::new(),
-            number: std::num::wrapping_add_u64(number, 1),
-            row: s.row,
+            number: run.number.wrapping_add(1),
+            row: shown.row,
         },
         read: end + 1,
-        written: s.written,
+        written: shown.written,
     }
 }
 
-// Whether a line is to be read, where the piece has so many bytes and the buffer so much room.
+// Whether a line is to be read, where the piece has so many bytes and the buffer so much room. Called at one place, so the three have
+// no struct of their own.
 fn goes_on(p: Progress, bytes: usize, room: usize) -> bool
     requires { p.written ≤ room }
     ensures { result ≡ (nat_le most_text (room - p.written) && nat_lt p.read bytes) }
@@ -105,17 +118,14 @@ fn goes_on(p: Progress, bytes: usize, room: usize) -> bool
     (MOST_TEXT <= room - p.written) & (p.read < bytes)
 }
 
-// Rows shown, and lines of the piece read and answered, as long as there is something to do and room for it.
+// Rows shown, and lines of the piece read and answered, as long as there is something to do and room for it. Each turn changes
+// the place, the area and the buffer, so there is nothing for an iterator to yield.
 pub fn advance(run: Run, area: &mut [u8], piece: &[u8], out: &mut [u8]) -> Progress
     ensures { Advanced run area.old piece.now out.old result area.new out.new }
 {
     let room = out.len();
     if room < MOST_TEXT {
-        return Progress {
-            run,
-            read: 0,
-            written: 0,
-        };
+        return Progress::before(run);
     }
     let mut p = show_rest(run, area, out);
     while goes_on(p, piece.len(), room) {

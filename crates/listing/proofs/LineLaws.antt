@@ -8,14 +8,14 @@ use borrow.Author.Tests.{ne_eqb, le-leb, leb-true, eqb-false}
 use lib.Dec.{eqb, leb}
 use lib.ListN.{length, take, drop, length-append, length-drop}
 use lib.Seq.{drop-drop, drop_at}
+use Rattle.std.specs.Prelude.{Some}
 use Rattle.roles.specs.Sets.{most_roles, last_role}
 use Rattle.text.specs.Ascii.{space, lf, Lacks}
 use Rattle.text.specs.Lines.{before_lf}
 use Rattle.text.specs.Number.{number_text, Got, found, bad, is_digit, digit_next, next_is, read_number}
 use Rattle.text.specs.Field.{number_field}
-use Rattle.text.specs.declared.NumberField.TheVariants as number
 use Rattle.text.proofs.NumberLaws.{next-is, bad≢found, number-only, number-back}
-use Rattle.text.proofs.Walks.{NumberThere}
+use Rattle.text.proofs.Walks.{NumberThere, field-there}
 use Rattle.names.specs.Names.{most_name}
 use Rattle.listing.specs.Listing.{in_front, list_lines, is_name, name_behind, read_line}
 
@@ -134,16 +134,13 @@ pub record LineThere (line : List ℕ) (r i : ℕ) : Type 0 where
   pub reads : read_line line ≡ found r (drop i line)
   pub inside : i ≤ length line
 
-pub line_read_lem : (line : List ℕ) (r i : ℕ) → number.Read r i ≡ number_field line (read_line line) → LineThere line r i
-line_read_lem line r i q = go (read_line line) refl q
-  where
-    go : (g : Got) → read_line line ≡ g → number.Read r i ≡ number_field line g → LineThere line r i
-    go (found w n) e k =
-        let x : r ≡ w = cc in
-        let y : i ≡ length line - length n = cc in
-        let t : List ℕ = number_text w ++ space ∷ [] in
-        let s : line ≡ t ++ n = (reads_only line w n e).same ∙ sym (append_assoc (number_text w) (space ∷ []) n) in
-        let m : length line ≡ length t + length n = ap length s ∙ length-append t n in
-        let d : drop i line ≡ n = ap (drop i) s ∙ drop_at t n i (omega arith) in
-        record { reads = rw (x, d) e; inside = omega arith }
-    go bad e k = let z : ◌≡◌ {A = ℕ} 0 1 = cc in absurd (omega arith)
+pub line_read_lem : (line : List ℕ) (r i : ℕ) → Some (r, i) ≡ number_field line (read_line line) → LineThere line r i
+line_read_lem line r i q =
+    let f = field-there (λ v. v) line (read_line line) r i q in
+    let w = f.value in
+    let n = f.rest in
+    let t : List ℕ = number_text w ++ space ∷ [] in
+    let s : line ≡ t ++ n = (reads_only line w n f.was).same ∙ sym (append_assoc (number_text w) (space ∷ []) n) in
+    let m : length line ≡ length t + length n = ap length s ∙ length-append t n in
+    let d : drop i line ≡ n = ap (drop i) s ∙ drop_at t n i (omega (arith, f.place)) in
+    record { reads = f.was ∙ sym (ap (λ (x : ℕ). found x (drop i line)) f.made ∙ ap (found w) d); inside = omega (arith, f.place) }

@@ -1,17 +1,20 @@
 -- What a reader of a table made of a list of names can rely on. Assumes nothing.
 use mathlib.Core.Path.{◌≡◌, refl, sym, ap, ◌∙◌, subst}
+use mathlib.Core.Bool.{Bool, true, false, cond}
 use mathlib.Core.List.{List}
 use mathlib.Core.Logic.{◌↔◌, ⊎_elim, by_cases}
 use Prim.Native.Nat.{ℕ, suc, ◌≤◌, ◌<◌}
 use native.Mathlib.Decide.{dec_lt, ℕ_discrete}
 use native.Mathlib.Omega.{arith}
+use lib.Dec.{eqb}
 use lib.ListN.{length, take}
+use Rattle.std.specs.Prelude.{Result, Ok, Err}
 use Rattle.text.specs.Number.{is_digit, digit_next, next_is, read_more, read_number}
 use Rattle.text.proofs.WriteLaws.{front-text}
 use Rattle.names.specs.Names.{length_of}
-use Rattle.listing.specs.Listing.{in_front, list_lines, is_name, name_behind, read_line, named, takes, taken, made, table_from, most_table, listing, Lists}
+use Rattle.listing.specs.Listing.{in_front, list_lines, is_name, name_behind, read_line, named, takes, taken, made, table_from, Made, most_table, listing, bytes_of, Lists}
 use Rattle.listing.specs.TablesMade.{SaysAt, WrongAt, two_names, two_table, TablesMade}
-use Rattle.listing.specs.declared.Listed.{Listed}
+use Rattle.listing.specs.declared.Refused.{Refused}
 use Rattle.listing.proofs.LineLaws.{lines_none, lines_cut, lines-last, reads_only, reads-back}
 use Rattle.listing.proofs.NamedLaws.{packed-most, packed-good}
 use Rattle.listing.proofs.Walk.{lists_length}
@@ -56,14 +59,25 @@ short s = packed-most (made_so s).packed
 
 -- ---- the table in the lent bytes
 
-module _ (s : List ℕ) {r : Listed} {d e : List ℕ} (room : most_table ≤ length d) (l : Lists (listing s) r d e) where
+-- the result has the number of bytes of the table, which alone it has where no line was refused
+bytes-made : {m : Made} {r : Result ℕ Refused} {d e : List ℕ} → Lists m r d e → bytes_of r ≡ length m.table
+bytes-made {m} l = ap bytes_of l.result ∙ go (eqb m.line 0)
+  where
+    go : (t : Bool) → bytes_of (cond t (Ok (length m.table)) (Err (record { line = m.line; bytes = length m.table }))) ≡ length m.table
+    go true = refl
+    go false = refl
+
+pub made_whole : {m : Made} {r : Result ℕ Refused} {d e : List ℕ} → m.line ≡ 0 → Lists m r d e → r ≡ Ok (length m.table)
+made_whole z l = l.result ∙ rw z refl
+
+module _ (s : List ℕ) {r : Result ℕ Refused} {d e : List ℕ} (room : most_table ≤ length d) (l : Lists (listing s) r d e) where
   -- a caller may lend the first bytes on
-  pub made_inside : r.bytes ≤ length e
-  made_inside = let h = short s in let b = l.bytes in omega (arith, lists_length l)
+  pub made_inside : bytes_of r ≤ length e
+  made_inside = let h = short s in let b = bytes-made l in omega (arith, lists_length l)
 
   -- and they are the table
-  pub made-first : take r.bytes e ≡ (listing s).table
-  made-first = let h = short s in rw (l.bytes, l.out) (front-text (listing s).table d (omega arith))
+  pub made-first : take (bytes_of r) e ≡ (listing s).table
+  made-first = let h = short s in rw (bytes-made l, l.out) (front-text (listing s).table d (omega arith))
 
 two-names : listing two_names ≡ made 0 two_table
 unfolding listing table_from list_lines in_front read_line name_behind is_name read_number read_more digit_next is_digit next_is takes taken named length_of
@@ -85,6 +99,6 @@ tables-made = record {
   taken-short = taken-short;
   names = λ s e j r n u. ((told s e).said j r n u.0 u).1;
   nameless = nameless;
-  one-outcome = λ m r q d e f p o. (λ i. record { line = (p.line ∙ sym o.line) i; bytes = (p.bytes ∙ sym o.bytes) i }, p.out ∙ sym o.out);
+  one-outcome = λ m r q d e f p o. (p.result ∙ sym o.result, p.out ∙ sym o.out);
   two-names = two-names;
 }

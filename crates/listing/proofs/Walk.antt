@@ -5,23 +5,24 @@ use mathlib.Core.List.{List, ◌∷◌}
 use Prim.Native.Nat.{ℕ, suc, ◌+◌, ◌-◌, ◌≤◌, ◌<◌}
 use native.Mathlib.Numerals.{add-one}
 use native.Mathlib.Omega.{arith}
-use borrow.Author.Tests.{eqb-true}
+use borrow.Author.Tests.{eqb-true, ne_eqb}
 use lib.Dec.{eqb}
 use lib.ListN.{length, take, drop, length-drop, drop_of_length-le}
 use lib.Seq.{length-sets, drop-drop}
+use Rattle.std.specs.Prelude.{Result, Ok, Err}
 use Rattle.roles.specs.Sets.{most_roles}
 use Rattle.text.specs.Number.{found, bad}
 use Rattle.text.specs.Write.{Wrote}
 use Rattle.text.proofs.WriteLaws.{front-text, wrote-length}
 use Rattle.names.specs.Names.{contents_bytes, most_name, length_of}
 use Rattle.text.specs.Lines.{before_lf}
-use Rattle.listing.specs.Listing.{list_lines, read_line, named, takes, taken, Made, made, table_from, no_names, most_table, listing, Lists}
-use Rattle.listing.specs.declared.Listed.{Listed}
+use Rattle.listing.specs.Listing.{list_lines, read_line, named, takes, taken, Made, made, table_from, no_names, most_table, listing, listed, Lists}
+use Rattle.listing.specs.declared.Refused.{Refused}
 use Rattle.listing.proofs.LineLaws.{first-line, lines_none, Reads, reads_only}
 use Rattle.listing.proofs.NamedLaws.{length-named, Packed, packed-long, packed-most, packed_none, packed-named}
 use Rattle.listing.proofs.Writing.{sets_over}
 
-pub lists_length : {m : Made} {r : Listed} {d e : List ℕ} → Lists m r d e → length e ≡ length d
+pub lists_length : {m : Made} {r : Result ℕ Refused} {d e : List ℕ} → Lists m r d e → length e ≡ length d
 lists_length {m} {r} {d} l = ap length l.out ∙ length-sets d 0 m.table
 
 pub record Left (list d out : List ℕ) (bytes number at : ℕ) : Type 0 where
@@ -29,6 +30,7 @@ pub record Left (list d out : List ℕ) (bytes number at : ℕ) : Type 0 where
   pub same : table_from number table (list_lines (drop at list)) ≡ listing list
   pub wrote : Wrote d 0 table out bytes
   pub packed : Packed table
+  pub numbered : 1 ≤ number
   pub counted : number ≤ at + 1
   pub room : most_table ≤ length d
 
@@ -41,6 +43,7 @@ left-start list {first} {d} {p} h w =
       same = refl;
       wrote = record { bytes = rw w.bytes (sym (sets_over first no_names no_names (omega arith) (omega arith))); next = w.next };
       packed = packed_none;
+      numbered = omega arith;
       counted = omega arith;
       room = omega arith;
     }
@@ -71,21 +74,20 @@ module _ {list d out : List ℕ} {bytes number at : ℕ} (l : Left list d out by
 
   -- the table so far is that of the list, where no line comes or one is refused; it was written over one without names
   table_is : {first : List ℕ} {p : ℕ} → Wrote first 0 no_names d p → (k : ℕ) → table_from number l.table (list_lines (drop at list)) ≡ made k l.table
-      → Lists (listing list) (record { line = k; bytes = bytes }) first out
-  table_is {first} w k e =
+      → {r : Result ℕ Refused} → r ≡ listed (made k l.table) → Lists (listing list) r first out
+  table_is {first} w k e i =
       let a = packed-long l.packed in
       let b = packed-most l.packed in
       let n = l.room in
       let m = wrote-length w in
       rw (← l.same, e) (record {
-        line = refl;
-        bytes = left-bytes;
+        result = i;
         out = l.wrote.bytes ∙ rw w.bytes (sets_over first no_names l.table a (omega arith));
       })
 
-  pub left_end : {first : List ℕ} {p : ℕ} → Wrote first 0 no_names d p → length list ≤ at → Lists (listing list) (record { line = 0; bytes = bytes }) first out
+  pub left_end : {first : List ℕ} {p : ℕ} → Wrote first 0 no_names d p → length list ≤ at → Lists (listing list) (Ok bytes) first out
   unfolding table_from
-  left_end w h = table_is w 0 (rw (drop_of_length-le list {i = at} h, lines_none) refl)
+  left_end w h = table_is w 0 (rw (drop_of_length-le list {i = at} h, lines_none) refl) (ap Ok left-bytes)
 
   -- the next line
   module _ (h : at < length list) (end : ℕ) (e : end ≡ at + before_lf (drop at list)) where
@@ -100,12 +102,15 @@ module _ {list d out : List ℕ} {bytes number at : ℕ} (l : Left list d out by
         rw (a, ← b, ← drop-drop (suc n) at list) (first-line (drop at list) (omega (arith, length-drop at list))).first
 
     line_refused : {first : List ℕ} {p : ℕ} → Wrote first 0 no_names d p → takes l.table (read_line (take (end - at) (drop at list))) ≡ false
-        → Lists (listing list) (record { line = number; bytes = bytes }) first out
+        → Lists (listing list) (Err (record { line = number; bytes = bytes })) first out
     unfolding table_from
-    line_refused w f = table_is w number (rw (line-next, f) refl)
+    line_refused w f =
+        let n = l.numbered in
+        let z : eqb number 0 ≡ false = ne_eqb number 0 (λ o. omega arith) in
+        table_is w number (rw (line-next, f) refl) (rw (z, left-bytes) refl)
 
     pub line-unread : {first : List ℕ} {p : ℕ} → Wrote first 0 no_names d p → read_line (take (end - at) (drop at list)) ≡ bad
-        → Lists (listing list) (record { line = number; bytes = bytes }) first out
+        → Lists (listing list) (Err (record { line = number; bytes = bytes })) first out
     unfolding takes
     line-unread w b = line_refused w (rw b refl)
 
@@ -120,7 +125,7 @@ module _ {list d out : List ℕ} {bytes number at : ℕ} (l : Left list d out by
       line-short = reads.short
 
       pub line-twice : {first : List ℕ} {p : ℕ} → Wrote first 0 no_names d p → eqb (length_of (take bytes out) r) 0 ≡ false
-          → Lists (listing list) (record { line = number; bytes = bytes }) first out
+          → Lists (listing list) (Err (record { line = number; bytes = bytes })) first out
       unfolding takes
       line-twice w t = line_refused w (rw (f, ← left-table) t)
 
@@ -151,6 +156,7 @@ module _ {list d out : List ℕ} {bytes number at : ℕ} (l : Left list d out by
                 next = v.next;
               };
               packed = grown;
+              numbered = omega arith;
               counted = let c = l.counted in omega (arith, e);
               room = k;
             }

@@ -1,15 +1,17 @@
 -- A table written into lent bytes: its contents tested and written byte by byte, and a name behind it. Assumes nothing.
-use mathlib.Core.Path.{◌≡◌, refl, sym, ap, ◌∙◌}
+use mathlib.Core.Path.{◌≡◌, refl, sym, ap, ap₂, ◌∙◌}
 use mathlib.Core.Bool.{◌&&◌}
 use mathlib.Core.List.{List, [], ◌∷◌, ◌++◌}
-use Prim.Native.Nat.{ℕ, suc, ◌+◌, ◌*◌, ◌≤◌, ◌<◌}
+use Prim.Native.Nat.{ℕ, suc, ◌+◌, ◌-◌, ◌*◌, ◌/◌, ◌%◌, ◌≤◌, ◌<◌}
 use native.Mathlib.Decide.{ℕ_discrete}
-use native.Mathlib.Numerals.{add-one}
 use native.Mathlib.Omega.{arith}
 use borrow.Author.Tests.{eq-eqb, ne_eqb}
+use borrow.Rule.Slice.PartMut.{put_mid}
 use lib.Dec.{eqb}
 use lib.ListN.{length, take, drop, get_or, set, take-append-drop}
-use lib.Seq.{sets, length-sets, length-take-le, take-set-lt, drop-set-lt}
+use lib.Seq.{sets, sets-eq, length-sets, length-take-le, take-set-lt, drop-set-lt, drop-drop}
+use Rattle.std.specs.Int.{w16, to_le_bytes}
+use Rattle.std.proofs.lemmas.List.{append_assoc}
 use Rattle.roles.specs.Sets.{most_roles}
 use Rattle.text.specs.Write.{Wrote}
 use Rattle.text.proofs.WriteLaws.{wrote_then, in-front}
@@ -31,11 +33,26 @@ pub free-is : (t : List ℕ) (r : ℕ) → (eqb (get_or t (r * 4 + 2) 0) 0 && eq
 unfolding length_of
 free-is t r = zero-half (get_or t (r * 4 + 2) 0) (get_or t (r * 4 + 2 + 1) 0)
 
-pub pair_is : (d : List ℕ) (k a b c e : ℕ) → set (set (set (set d k a) (k + 1) b) (k + 2) c) (k + 3) e ≡ sets d k (a ∷ b ∷ c ∷ e ∷ [])
-pair_is d k a b c e =
-    let x : k + 2 ≡ suc (suc k) = omega arith in
-    let y : k + 3 ≡ suc (suc (suc k)) = omega arith in
-    rw (add-one k, x, y) refl
+-- bytes put in the place of as many
+put-sets : (l s : List ℕ) (at k : ℕ) → at + k ≤ length l → length s ≡ k → put_mid at k l s ≡ sets l at s
+put-sets l s at k h e =
+    ap (λ (r : List ℕ). take at l ++ (s ++ r)) (drop-drop k at l ∙ ap (λ (n : ℕ). drop (at + n) l) (sym e))
+    ∙ sym (sets-eq s l at (omega arith) ∙ append_assoc (take at l) s (drop (at + length s) l))
+
+half-bytes : (n : ℕ) → n ≤ 65535 → to_le_bytes w16 n ≡ n % 256 ∷ n / 256 ∷ []
+half-bytes n h = ap₂ (λ (a b : ℕ). a ∷ b ∷ []) (omega arith) (omega arith)
+
+pub pair-put : (d : List ℕ) (k start n : ℕ) → k + 4 ≤ length d → start ≤ 65535 → n ≤ 65535 → {x y : List ℕ} → x ≡ to_le_bytes w16 start → y ≡ to_le_bytes w16 n
+    → put_mid (k + 2) (k + 4 - (k + 2)) (put_mid k (k + 2 - k) d x) y ≡ sets d k (pair_bytes start n)
+pair-put d k start n room hs hn {x} {y} p q =
+    let e : k + 2 ≡ suc (suc k) = omega arith in
+    let u : x ≡ start % 256 ∷ start / 256 ∷ [] = p ∙ half-bytes start hs in
+    let v : y ≡ n % 256 ∷ n / 256 ∷ [] = q ∙ half-bytes n hn in
+    let first : put_mid k (k + 2 - k) d x ≡ sets d k x = put-sets d x k (k + 2 - k) (omega arith) (ap length u ∙ omega arith) in
+    put-sets (put_mid k (k + 2 - k) d x) y (k + 2) (k + 4 - (k + 2)) (omega (arith, ap length first, length-sets d k x)) (ap length v ∙ omega arith)
+    ∙ ap (λ (m : List ℕ). sets m (k + 2) y) first
+    ∙ ap₂ (λ (a b : List ℕ). sets (sets d k a) (k + 2) b) u v
+    ∙ rw e refl
 
 -- ---- a table at the start of lent bytes
 

@@ -14,14 +14,16 @@
 --     no_names           a table without names
 --     most_table         no table that is made has more bytes: the contents, and a longest name for each role
 --     listing s          the table made of the bytes s
+--     listed m           m as the code gives it: how many bytes the table has, or the line that was refused and how many it has before it
+--     bytes_of r         how many bytes the table has, by the result r
 --     Lists m r d e      the result r is that of m, and the bytes e are d with the table from the first on
-use Rattle.std.specs.Prelude.{◌≡◌, Bool, false, cond, ◌&&◌, List, [], ◌∷◌, ◌++◌, ℕ, suc, ◌+◌, ◌*◌, ◌/◌, ◌%◌, eqb, leb, length, drop, replicate}
+use Rattle.std.specs.Prelude.{◌≡◌, Bool, false, cond, ◌&&◌, List, [], ◌∷◌, ◌++◌, ℕ, suc, ◌+◌, ◌*◌, ◌/◌, ◌%◌, eqb, leb, length, drop, replicate, Result, Ok, Err}
 use Rattle.std.proofs.lemmas.List.Edits.{sets}
 use Rattle.roles.specs.Sets.{most_roles, last_role}
 use Rattle.text.specs.Ascii.{space, lf}
 use Rattle.text.specs.Number.{Got, found, bad, next_is, read_number}
 use Rattle.names.specs.Names.{contents_bytes, most_name, length_of}
-use Rattle.listing.specs.declared.Listed.{Listed}
+use Rattle.listing.specs.declared.Refused.{Refused}
 
 -- ---- lines
 
@@ -83,7 +85,13 @@ listing s = table_from 1 no_names (list_lines s)
 
 -- ---- as the code gives it
 
-pub record Lists (m : Made) (r : Listed) (d e : List ℕ) : Type 0 where
-  pub line : r.line ≡ m.line
-  pub bytes : r.bytes ≡ length m.table
+abbrev pub listed : Made → Result ℕ Refused
+listed m = cond (eqb m.line 0) (Ok (length m.table)) (Err (record { line = m.line; bytes = length m.table }))
+
+abbrev pub bytes_of : Result ℕ Refused → ℕ
+bytes_of (Ok n) = n
+bytes_of (Err r) = r.bytes
+
+pub record Lists (m : Made) (r : Result ℕ Refused) (d e : List ℕ) : Type 0 where
+  pub result : r ≡ listed m
   pub out : e ≡ sets d 0 m.table

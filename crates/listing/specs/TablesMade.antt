@@ -6,12 +6,12 @@
 --     TablesMade        where lines end, and what each reads as; which line is refused, and that one is in every list of over 2,304 bytes; the table of
 --                       a list is good, and where no line is refused it has the names that the lines say, and no other; the contract allows one
 --                       outcome; the table of two lines, byte by byte
-use Rattle.std.specs.Prelude.{◌≡◌, List, [], ◌∷◌, ◌++◌, ◌↔◌, ◌⊎◌, ℕ, suc, ◌≤◌, ◌<◌, T, length, get_or, replicate}
+use Rattle.std.specs.Prelude.{◌≡◌, List, [], ◌∷◌, ◌++◌, ◌↔◌, ◌⊎◌, ℕ, suc, ◌≤◌, ◌<◌, T, length, get_or, replicate, Result}
 use Rattle.text.specs.Ascii.{space, lf, Lacks}
 use Rattle.text.specs.Number.{number_text, found, bad}
 use Rattle.names.specs.Names.{length_of, good_table, part_at}
 use Rattle.listing.specs.Listing.{list_lines, read_line, Made, made, listing, Lists}
-use Rattle.listing.specs.declared.Listed.{Listed}
+use Rattle.listing.specs.declared.Refused.{Refused}
 
 abbrev pub SaysAt : List (List ℕ) → ℕ → ℕ → List ℕ → Type 0
 SaysAt ls j r n = (j < length ls) × (read_line (get_or ls j []) ≡ found r n)
@@ -40,5 +40,5 @@ pub record TablesMade : Type 0 where
   pub taken-short : (s : List ℕ) → (listing s).line ≡ 0 → length s ≤ 2304
   pub names : (s : List ℕ) → (listing s).line ≡ 0 → (j r : ℕ) (n : List ℕ) → SaysAt (list_lines s) j r n → part_at (listing s).table r ≡ n
   pub nameless : (s : List ℕ) → (listing s).line ≡ 0 → (r : ℕ) → r < 64 → ((j : ℕ) (n : List ℕ) → ¬ (SaysAt (list_lines s) j r n)) → length_of (listing s).table r ≡ 0
-  pub one-outcome : (m : Made) (r q : Listed) (d e f : List ℕ) → Lists m r d e → Lists m q d f → (r ≡ q) × (e ≡ f)
+  pub one-outcome : (m : Made) (r q : Result ℕ Refused) (d e f : List ℕ) → Lists m r d e → Lists m q d f → (r ≡ q) × (e ≡ f)
   pub two-names : listing two_names ≡ made 0 two_table

@@ -11,14 +11,14 @@ ghost use Rattle.listing.specs.Listing.{read_line, pair_bytes, named, no_names, 
 
 use names::{CONTENTS_BYTES, MOST_NAME, PAIR_BYTES};
 use roles::{LAST_ROLE, MOST_ROLES};
-use text::{NumberField, byte_at, line_end, read_number, write_bytes};
+use text::{Page, byte_at, line_end, read_number};
 
 // No table that is made has more bytes: the contents, and a longest name for each role.
 pub const MOST_TABLE: usize = CONTENTS_BYTES + (MOST_ROLES as usize) * MOST_NAME;
 
-// The number of the first line that is refused, from 1 on, or 0; and how many bytes the table of the lines before it has.
+// The number of the first line that is refused, from 1 on, and how many bytes the table of the lines before it has.
 #[derive(Clone, Copy)]
-pub struct Listed {
+pub struct Refused {
     pub line: u64,
     pub bytes: usize,
 }
@@ -31,20 +31,18 @@ fn is_length(n: usize) -> bool
 }
 
 // The role of a line, and the place at which its name starts.
-fn read_line(line: &[u8]) -> NumberField
+fn read_line(line: &[u8]) -> Option<(u64, usize)>
     ensures { result ≡ number_field line.now (read_line line.now) }
 {
-    let NumberField::Read { value, next } = read_number(line, 0, LAST_ROLE) else {
-        return NumberField::Bad;
-    };
+    let (role, next) = read_number(line, 0, LAST_ROLE)?;
     if !byte_at(line, next, b' ') {
-        return NumberField::Bad;
+        return None;
     }
     let name = next + 1;
     if !is_length(line.len() - name) {
-        return NumberField::Bad;
+        return None;
     }
-    NumberField::Read { value, next: name }
+    Some((role, name))
 }
 
 // Whether a table has no name for role r.
@@ -62,10 +60,8 @@ fn write_pair(out: &mut [u8], r: u64, start: usize, n: usize)
     ensures { out.new ≡ sets out.old (r * 4) (pair_bytes start n) }
 {
     let at = (r as usize) * PAIR_BYTES;
-    out[at] = (start % 256) as u8;
-    out[at + 1] = (start / 256) as u8;
-    out[at + 2] = (n % 256) as u8;
-    out[at + 3] = (n / 256) as u8;
+    out[at..at + 2].copy_from_slice(&(start as u16).to_le_bytes());
+    out[at + 2..at + PAIR_BYTES].copy_from_slice(&(n as u16).to_le_bytes());
 }
 
 // One name more in the table of the first `bytes` bytes: how many it has then.
@@ -74,7 +70,9 @@ fn write_name(out: &mut [u8], bytes: usize, r: u64, name: &[u8]) -> usize
     ensures { Wrote out.old 0 (named (take bytes out.old) r name.now) out.new result }
 {
     write_pair(out, r, bytes, name.len());
-    write_bytes(out, bytes, name)
+    let mut page = Page::new(out, bytes);
+    page.push_bytes(name);
+    page.at
 }
 
 // A table without names: how many bytes it has.
@@ -82,12 +80,14 @@ fn write_none(out: &mut [u8]) -> usize
     requires { contents_bytes ≤ length out.old }
     ensures { Wrote out.old 0 no_names out.new result }
 {
-    let blank = [0u8; CONTENTS_BYTES];
-    write_bytes(out, 0, &blank)
+    out[..CONTENTS_BYTES].fill(0);
+    CONTENTS_BYTES
 }
 
-// The table of a list of names, up to a line that is refused: one that does not read, or names a role that has a name.
-pub fn make_table(list: &[u8], out: &mut [u8]) -> Listed
+// The table of a list of names, and how many bytes it has, up to a line that is refused: one that does not read, or names a role
+// that has a name. The lines are those between LFs: std's `split` would make one more of nothing behind the last LF, and
+// `split_inclusive` leave each its LF.
+pub fn make_table(list: &[u8], out: &mut [u8]) -> Result<usize, Refused>
     requires { most_table ≤ length out.old }
     ensures { Lists (listing list.now) result out.old out.new }
 {
@@ -97,15 +97,15 @@ pub fn make_table(list: &[u8], out: &mut [u8]) -> Listed
     while at < list.len() {
         let end = line_end(list, at);
         let entry = &list[at..end];
-        let NumberField::Read { value, next } = read_line(entry) else {
-            return Listed { line, bytes };
+        let Some((role, name)) = read_line(entry) else {
+            return Err(Refused { line, bytes });
         };
-        if !is_free(&out[..bytes], value) {
-            return Listed { line, bytes };
+        if !is_free(&out[..bytes], role) {
+            return Err(Refused { line, bytes });
         }
-        bytes = write_name(out, bytes, value, &entry[next..]);
+        bytes = write_name(out, bytes, role, &entry[name..]);
         line += 1;
         at = end + 1;
     }
-    Listed { line: 0, bytes }
+    Ok(bytes)
 }

@@ -6,6 +6,7 @@ use Prim.Native.Nat.{ℕ, ◌+◌, ◌≤◌, ◌<◌}
 use native.Mathlib.Numerals.{add-one}
 use lib.ListN.{length, take, drop, get_or, drop_of_length-le}
 use lib.Seq.{take-suc, drop-cons}
+use Rattle.std.specs.List.{list_any}
 use Rattle.meaning.specs.Lists.{any}
 
 pub drop-next : (l : List ℕ) (i : ℕ) → i < length l → drop i l ≡ get_or l i 0 ∷ drop (i + 1) l
@@ -25,6 +26,12 @@ module _ (p : ℕ → Bool) (l : List ℕ) (i : ℕ) (e : any p (drop i l) ≡ a
   pub any-end : length l ≤ i → false ≡ any p l
   unfolding any
   any-end h = sym (ap (any p) (drop_of_length-le l h)) ∙ e
+
+-- what a chain of iterators answers
+pub any-is : (p : ℕ → Bool) (l : List ℕ) → list_any p l ≡ any p l
+unfolding any
+any-is p [] = refl
+any-is p (x ∷ l) = ap (λ (b : Bool). p x || b) (any-is p l)
 
 -- the same from the last to the first
 any_append : (p : ℕ → Bool) (k l : List ℕ) → any p (k ++ l) ≡ (any p k || any p l)

@@ -2,12 +2,12 @@
 use mathlib.Core.Path.{◌≡◌, refl, sym, ap, ap₂, ◌∙◌, subst}
 use mathlib.Core.Bool.{Bool, true, false, not, ◌&&◌, ◌||◌, and-false, and-true}
 use mathlib.Core.List.{List, [], ◌∷◌, ◌++◌}
-use Prim.Native.Nat.{ℕ, zero, suc, ◌+◌, ◌-◌, ◌≤◌, ◌<◌}
+use Prim.Native.Nat.{ℕ, zero, suc, ◌+◌, ◌≤◌, ◌<◌}
 use native.Mathlib.Omega.{arith}
 use borrow.Author.Tests.{le-leb, lt-leb}
 use lib.Dec.{leb, eqb}
 use lib.ListN.{length, get_or, take, drop, length-take, drop_of_length-le}
-use Rattle.words.proofs.Runs.{run_take, run-before}
+use Rattle.words.proofs.Runs.{run_take, run_drop}
 use Rattle.roles.specs.Sets.{shares, joined}
 use Rattle.roles.proofs.Laws.{joined-assoc}
 use Rattle.meaning.specs.Rows.{has_part}
@@ -46,49 +46,54 @@ module _ (ws : List ℕ) (at c m : ℕ) (b : at + c ≤ length ws) where
   unfolding climb union_of
   passed_none = (omega arith, rw run_none (record { climbs = refl; union = refl; first = refl }))
 
-  module _ (j later next o : ℕ) (p : PassedFrom ws at c m j later next) (h : 0 < j) (here : o ≡ get_or ws (at + j - 1) 0) where
-    pub passed-one : {both : ℕ} → both ≡ joined o later → o ≤ next → PassedFrom ws at c m (j - 1) both o
+  -- one set more, that of number i
+  module _ (i later next o : ℕ) (p : PassedFrom ws at c m (i + 1) later next) (here : o ≡ get_or ws (at + i) 0) where
+    pub one-before : drop i (take c (drop at ws)) ≡ o ∷ drop (i + 1) (take c (drop at ws))
+    one-before = let q = p.0 in run_drop ws at c i (omega arith) b ∙ ap (λ (x : ℕ). x ∷ drop (i + 1) (take c (drop at ws))) (sym here)
+
+    pub passed-one : {both : ℕ} → both ≡ joined o later → o ≤ next → PassedFrom ws at c m i both o
     passed-one {both} e k =
         let q = p.0 in
-        (omega arith, subst (λ (l : List ℕ). Passed m l both o) (sym (run-before ws at c j o h p.0 b here)) (one_more m o (drop j (take c (drop at ws))) later next p.1 e k))
+        (omega arith, subst (λ (l : List ℕ). Passed m l both o) (sym one-before) (one_more m o (drop (i + 1) (take c (drop at ws))) later next p.1 e k))
 
-    pub passed-falls : next < o → climb m (drop (j - 1) (take c (drop at ws))) ≡ false
-    passed-falls k = ap (climb m) (run-before ws at c j o h p.0 b here) ∙ one-falls m o (drop j (take c (drop at ws))) later next p.1 k
+    pub passed-falls : next < o → climb m (drop i (take c (drop at ws))) ≡ false
+    passed-falls k = ap (climb m) one-before ∙ one-falls m o (drop (i + 1) (take c (drop at ws))) later next p.1 k
 
   -- two of them at once
-  module _ (j later next t o : ℕ) (p : PassedFrom ws at c m j later next) (h : 1 < j) (last : t ≡ get_or ws (at + j - 1) 0) (here : o ≡ get_or ws (at + j - 2) 0) (k : t ≤ next) where
-    last-passed : PassedFrom ws at c m (j - 1) (joined t later) t
-    last-passed = passed-one j later next t p (omega arith) last refl k
+  module _ (i later next o t : ℕ) (p : PassedFrom ws at c m (i + 1 + 1) later next) (here : o ≡ get_or ws (at + i) 0) (last : t ≡ get_or ws (at + i + 1) 0) where
+    last_word : t ≡ get_or ws (at + (i + 1)) 0
+    last_word = let e : at + i + 1 ≡ at + (i + 1) = omega arith in last ∙ ap (λ (k : ℕ). get_or ws k 0) e
 
-    second_word : o ≡ get_or ws (at + (j - 1) - 1) 0
-    second_word = let e : at + j - 2 ≡ at + (j - 1) - 1 = omega arith in here ∙ ap (λ (i : ℕ). get_or ws i 0) e
+    pub last-falls : next < t → climb m (drop (i + 1) (take c (drop at ws))) ≡ false
+    last-falls = passed-falls (i + 1) later next t p last_word
 
-    pub passed-two : {both : ℕ} → both ≡ joined (joined o t) later → o ≤ t → PassedFrom ws at c m (j - 2) both o
-    passed-two e g =
-        let q : j - 1 - 1 ≡ j - 2 = omega arith in
-        rw q at (passed-one (j - 1) (joined t later) t o last-passed (omega arith) second_word (e ∙ joined-assoc o t later) g)
+    module _ (k : t ≤ next) where
+      last-passed : PassedFrom ws at c m (i + 1) (joined t later) t
+      last-passed = passed-one (i + 1) later next t p last_word refl k
 
-    pub second-falls : t < o → climb m (drop (j - 1 - 1) (take c (drop at ws))) ≡ false
-    second-falls g = passed-falls (j - 1) (joined t later) t o last-passed (omega arith) second_word g
+      pub passed-two : {both : ℕ} → both ≡ joined (joined o t) later → o ≤ t → PassedFrom ws at c m i both o
+      passed-two e g = passed-one i (joined t later) t o last-passed here (e ∙ joined-assoc o t later) g
 
--- the last two of the first j held against those before them
-pub apart-two : (ws : List ℕ) (at j s t : ℕ) {r : Bool} → 1 < j → at + j ≤ length ws → s ≡ get_or ws (at + (j - 2)) 0 → t ≡ get_or ws (at + (j - 2 + 1)) 0
-    → r ≡ (has_part s (take (j - 2) (drop at ws)) || has_part t (take (j - 2 + 1) (drop at ws))) → stand_apart (take j (drop at ws)) ≡ (stand_apart (take (j - 2) (drop at ws)) && not r)
-apart-two ws at j s t h b es et er =
-    let e : j - 2 + 1 + 1 ≡ j = omega arith in
-    let before = take (j - 2) (drop at ws) in
-    let with-s = take (j - 2 + 1) (drop at ws) in
-    sym (ap (λ (k : ℕ). stand_apart (take k (drop at ws))) e)
-    ∙ ap stand_apart (run_take ws at (j - 2 + 1) (omega arith) ∙ ap (λ (x : ℕ). with-s ++ x ∷ []) (sym et))
-    ∙ apart-one with-s t
-    ∙ ap (λ (x : Bool). x && not (has_part t with-s)) (ap stand_apart (run_take ws at (j - 2) (omega arith) ∙ ap (λ (x : ℕ). before ++ x ∷ []) (sym es)) ∙ apart-one before s)
-    ∙ joint (stand_apart before) (has_part s before) (has_part t with-s)
-    ∙ ap (λ (x : Bool). stand_apart before && not x) (sym er)
-  where
-    joint : (x y z : Bool) → ((x && not y) && not z) ≡ (x && not (y || z))
-    joint true true z = refl
-    joint true false z = refl
-    joint false y z = refl
+      pub second-falls : t < o → climb m (drop i (take c (drop at ws))) ≡ false
+      second-falls g = passed-falls i (joined t later) t o last-passed here g
+
+    -- the two held against those before them
+    pub apart-two : {r : Bool} → r ≡ (has_part o (take i (drop at ws)) || has_part t (take (i + 1) (drop at ws)))
+        → stand_apart (take (i + 1 + 1) (drop at ws)) ≡ (stand_apart (take i (drop at ws)) && not r)
+    apart-two er =
+        let q = p.0 in
+        let before = take i (drop at ws) in
+        let with-s = take (i + 1) (drop at ws) in
+        ap stand_apart (run_take ws at (i + 1) (omega arith) ∙ ap (λ (x : ℕ). with-s ++ x ∷ []) (sym last_word))
+        ∙ apart-one with-s t
+        ∙ ap (λ (x : Bool). x && not (has_part t with-s)) (ap stand_apart (run_take ws at i (omega arith) ∙ ap (λ (x : ℕ). before ++ x ∷ []) (sym here)) ∙ apart-one before o)
+        ∙ joint (stand_apart before) (has_part o before) (has_part t with-s)
+        ∙ ap (λ (x : Bool). stand_apart before && not x) (sym er)
+      where
+        joint : (x y z : Bool) → ((x && not y) && not z) ≡ (x && not (y || z))
+        joint true true z = refl
+        joint true false z = refl
+        joint false y z = refl
 
 -- the first set, left or looked at once more, where all of them stand apart
 module _ (m d : ℕ) (o : ℕ) (l : List ℕ) (a : stand_apart (o ∷ l) ≡ true) where

@@ -1,6 +1,6 @@
 -- The calls that print, refusal by refusal, and how long their texts are. Assumes nothing.
-use mathlib.Core.Path.{◌≡◌, refl, sym, ap, ◌∙◌, subst⁻¹}
-use mathlib.Core.Bool.{Bool, true, false, cond, false≢true}
+use mathlib.Core.Path.{◌≡◌, refl, ap, ◌∙◌, subst⁻¹}
+use mathlib.Core.Bool.{Bool, true, false, cond}
 use mathlib.Core.List.{List, [], ◌∷◌, ◌++◌}
 use mathlib.Core.Logic.{inl, inr, by_cases}
 use Prim.Native.Nat.{ℕ, suc, ◌+◌, ◌*◌, ◌≤◌, ◌<◌}
@@ -22,6 +22,7 @@ use Rattle.area.specs.State.{Entry, State, state_of}
 use Rattle.area.proofs.RowLaws.{GoodEntry, row-good}
 use Rattle.area.proofs.Bytes.{good-state}
 use Rattle.table.specs.Table.{rows_in, nth}
+use Rattle.std.proofs.Common.{Some, None}
 use Rattle.walker.specs.Walk.{given, handed}
 use Rattle.walker.specs.declared.Handed.{Handed}
 use Rattle.walker.proofs.WalkLaws.{walk-row, walk_end}
@@ -146,13 +147,13 @@ module _ (l : List ℕ) (g : good_bytes l ≡ true) where
 
 -- ---- the row that a walker hands out
 
-module _ (l : List ℕ) (i : ℕ) (g : T (good_bytes l)) {h : Handed} (e : h ≡ handed l i) where
-  pub some-handed : h.some ≡ true → (i < length (rows_in l)) × (h ≡ given i (nth i (rows_in l)))
-  some-handed t = by_cases (dec_lt i (length (rows_in l)))
-      (λ k. (k, e ∙ walk-row l i g k))
-      (λ k. absurd (false≢true (sym (ap (λ (x : Handed). x.some) (e ∙ walk_end l i g (omega arith))) ∙ t)))
+module _ (l : List ℕ) (i : ℕ) (g : T (good_bytes l)) where
+  pub some-handed : {h : Handed} → Some h ≡ handed l i → (i < length (rows_in l)) × (h ≡ given (nth i (rows_in l)))
+  some-handed {h} e = by_cases (dec_lt i (length (rows_in l)))
+      (λ k. let q = e ∙ (walk-row l i g k).0 in (k, cc))
+      (λ k. let q = e ∙ (walk_end l i g (omega arith)).0 in absurd cc)
 
-  pub none-handed : h.some ≡ false → length (rows_in l) ≤ i
-  none-handed t = by_cases (dec_lt i (length (rows_in l)))
-      (λ k. absurd (false≢true (sym t ∙ ap (λ (x : Handed). x.some) (e ∙ walk-row l i g k))))
+  pub none-handed : None ≡ handed l i → length (rows_in l) ≤ i
+  none-handed e = by_cases (dec_lt i (length (rows_in l)))
+      (λ k. let q = e ∙ (walk-row l i g k).0 in absurd cc)
       (λ k. omega arith)

@@ -5,45 +5,48 @@
 mod write;
 
 ghost use Rattle.written.specs.Print.{Prints};
+ghost use Rattle.written.specs.Result.{written_of};
 ghost use Rattle.print.specs.Print.{print_open_of, print_row_of};
 
 use area::check::check;
 use table::{policy_state, role_count};
+use text::Page;
 use walker::row_of;
 use write::{write_open, write_row};
-use written::{BAD_AREA, SHORT_BUFFER, Written, refused, wrote};
+use written::Refusal;
 
 // A buffer of so many bytes is asked for; no text of a call is longer.
 const LEAST_ROOM: usize = 4096;
 
-const NO_ROW: u32 = 18;
-
-// The O line.
-pub fn print_open(area: &[u8], out: &mut [u8]) -> Written
-    ensures { Prints (print_open_of area.now out.old) result out.new }
+// The O line: how many bytes it has.
+pub fn print_open(area: &[u8], out: &mut [u8]) -> Result<u32, Refusal>
+    ensures { Prints (print_open_of area.now out.old) (written_of result) out.new }
 {
     if !check(area) {
-        return refused(BAD_AREA);
+        return Err(Refusal::BadArea);
     }
     if out.len() < LEAST_ROOM {
-        return refused(SHORT_BUFFER);
+        return Err(Refusal::ShortBuffer);
     }
-    wrote(write_open(out, role_count(area), policy_state(area)))
+    let mut page = Page::new(out, 0);
+    write_open(&mut page, role_count(area), policy_state(area));
+    Ok(page.at as u32)
 }
 
-// The lines of the row of a number, each with the area's policy state.
-pub fn print_row(area: &[u8], row: u64, out: &mut [u8]) -> Written
-    ensures { Prints (print_row_of area.now row out.old) result out.new }
+// The lines of the row of a number, each with the area's policy state: how many bytes they have.
+pub fn print_row(area: &[u8], row: u64, out: &mut [u8]) -> Result<u32, Refusal>
+    ensures { Prints (print_row_of area.now row out.old) (written_of result) out.new }
 {
     if !check(area) {
-        return refused(BAD_AREA);
+        return Err(Refusal::BadArea);
     }
-    let handed = row_of(area, row as usize);
-    if !handed.some {
-        return refused(NO_ROW);
-    }
+    let Some(handed) = row_of(area, row as usize) else {
+        return Err(Refusal::NoRow);
+    };
     if out.len() < LEAST_ROOM {
-        return refused(SHORT_BUFFER);
+        return Err(Refusal::ShortBuffer);
     }
-    wrote(write_row(out, handed.permission, handed.row, policy_state(area)))
+    let mut page = Page::new(out, 0);
+    write_row(&mut page, handed.permission, handed.row, policy_state(area));
+    Ok(page.at as u32)
 }

@@ -1,77 +1,66 @@
-// The lines of an area, written into a lent buffer.
-ghost use Rattle.std.specs.Prelude.{◌+◌, ◌≤◌, length};
+// The lines of an area, written on a page.
 ghost use Rattle.meaning.specs.Rows.{most_opens};
 ghost use Rattle.rows.specs.Stored.{Tidy, row_of};
 ghost use Rattle.area.specs.State.{entry};
-ghost use Rattle.text.specs.Write.{Wrote};
+ghost use Rattle.text.specs.Page.{Room, Adds};
 ghost use Rattle.requests.specs.declared.Request.TheVariants.{Open};
 ghost use Rattle.print.specs.Printed.{denials, allows, tells, line_of, lines_text, row_lines};
 ghost use Rattle.print.specs.Lines.{reply_line};
 
 use roles::RoleSet;
 use rows::Row;
-use text::{write_number_field, write_set_field};
+use text::Page;
 
 // `O n state`, LF.
-pub fn write_open(out: &mut [u8], n: u64, g: u64) -> usize
-    requires { length (line_of (Open n g)) ≤ length out.old }
-    ensures { Wrote out.old 0 (line_of (Open n g)) out.new result }
+#[tactic(auto, unfolding(crate::specs::Printed::line_of, requests::specs::Request::request_text))]
+pub fn write_open(page: &mut Page<'_>, n: u64, g: u64)
+    requires { Room page.old (line_of (Open n g)) }
+    ensures { Adds page.old (line_of (Open n g)) page.new }
 {
-    out[0] = b'O';
-    let a = write_number_field(out, 1, n);
-    let b = write_number_field(out, a, g);
-    out[b] = b'\n';
-    b + 1
+    page.push(b'O');
+    page.field(n);
+    page.field(g);
+    page.push(b'\n');
 }
 
-// A reply: its letter, `p set state`, LF.
-fn write_reply(out: &mut [u8], at: usize, letter: u8, p: u32, s: RoleSet, g: u64) -> usize
-    requires { at + length (reply_line letter p s.bits g) ≤ length out.old }
-    ensures { Wrote out.old at (reply_line letter p s.bits g) out.new result }
+// A reply: its letter, `p set state`, LF. A struct of permission and state would be made for these four functions alone.
+fn write_reply(page: &mut Page<'_>, letter: u8, p: u32, s: RoleSet, g: u64)
+    requires { Room page.old (reply_line letter p s.bits g) }
+    ensures { Adds page.old (reply_line letter p s.bits g) page.new }
 {
-    out[at] = letter;
-    let a = write_number_field(out, at + 1, p as u64);
-    let b = write_set_field(out, a, s);
-    let c = write_number_field(out, b, g);
-    out[c] = b'\n';
-    c + 1
+    page.push(letter);
+    page.field(p);
+    page.field(s);
+    page.field(g);
+    page.push(b'\n');
 }
 
 // A D line, if something is denied.
-fn write_denied(out: &mut [u8], p: u32, d: RoleSet, g: u64) -> usize
-    requires { length (lines_text (tells p (denials d.bits) g)) ≤ length out.old }
-    ensures { Wrote out.old 0 (lines_text (tells p (denials d.bits) g)) out.new result }
+fn write_denied(page: &mut Page<'_>, p: u32, d: RoleSet, g: u64)
+    requires { Room page.old (lines_text (tells p (denials d.bits) g)) }
+    ensures { Adds page.old (lines_text (tells p (denials d.bits) g)) page.new }
 {
-    if d.bits == 0 {
-        return 0;
+    if !d.is_empty() {
+        write_reply(page, b'D', p, d, g);
     }
-    write_reply(out, 0, b'D', p, d, g)
 }
 
-// An A line for each open set, in order.
-fn write_opens(out: &mut [u8], at: usize, p: u32, sets: &[u64], g: u64) -> usize
-    requires { at + length (lines_text (tells p (allows sets.now) g)) ≤ length out.old }
-    ensures { Wrote out.old at (lines_text (tells p (allows sets.now) g)) out.new result }
+// An A line for each open set, in order. `answers::write_sets` is a loop over sets too: as one function of a closure, which would need a
+// contract of its own, they would be no plainer.
+fn write_opens(page: &mut Page<'_>, p: u32, sets: &[u64], g: u64)
+    requires { Room page.old (lines_text (tells p (allows sets.now) g)) }
+    ensures { Adds page.old (lines_text (tells p (allows sets.now) g)) page.new }
 {
-    let mut place = at;
-    let mut i = 0;
-    while i < sets.len() {
-        let s = RoleSet { bits: sets[i] };
-        i += 1;
-        place = write_reply(out, place, b'A', p, s, g);
+    for bits in sets {
+        write_reply(page, b'A', p, RoleSet { bits: *bits }, g);
     }
-    place
 }
 
 // The lines of a row in a policy state.
-pub fn write_row(out: &mut [u8], p: u32, w: Row, g: u64) -> usize
-    requires { Tidy most_opens w.opens × (length (row_lines g (entry p (row_of w))) ≤ length out.old) }
-    ensures { Wrote out.old 0 (row_lines g (entry p (row_of w))) out.new result }
+pub fn write_row(page: &mut Page<'_>, p: u32, w: Row, g: u64)
+    requires { Tidy most_opens w.opens × Room page.old (row_lines g (entry p (row_of w))) }
+    ensures { Adds page.old (row_lines g (entry p (row_of w))) page.new }
 {
-    let d = w.denied;
-    let l = w.opens;
-    let sets = l.sets;
-    let n = l.count;
-    let place = write_denied(out, p, d, g);
-    write_opens(out, place, p, &sets[..n], g)
+    write_denied(page, p, w.denied, g);
+    write_opens(page, p, w.opens.held(), g);
 }

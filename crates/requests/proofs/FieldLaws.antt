@@ -6,6 +6,7 @@ use Prim.Native.Nat.{ℕ, ◌+◌, ◌-◌, ◌^◌, ◌≤◌, ◌<◌}
 use native.Mathlib.Omega.{arith}
 use lib.ListN.{length, drop, drop_of_length-le}
 use lib.Seq.{drop-drop}
+use Rattle.std.specs.Prelude.{Some}
 use Rattle.roles.specs.declared.RoleSet.{RoleSet}
 use Rattle.roles.specs.Sets.{last_role, most_roles}
 use Rattle.meaning.specs.Events.{last_permission}
@@ -13,8 +14,6 @@ use Rattle.text.specs.Ascii.{space}
 use Rattle.text.specs.Number.{number_text, Got, found, bad, is_digit, digit_next, next_is, read_number}
 use Rattle.text.specs.Set.{set_text, read_set, Ends}
 use Rattle.text.specs.Field.{number_field, set_field}
-use Rattle.text.specs.declared.NumberField.TheVariants as number
-use Rattle.text.specs.declared.SetField.TheVariants as set
 use Rattle.text.proofs.NumberLaws.{next-is, bad≢found, number-nothing, number-back, number-only}
 use Rattle.text.proofs.SetLaws.{set-nothing, set_back, set-only}
 use Rattle.text.proofs.Walks.{next-cons, number_read, set-read}
@@ -126,7 +125,7 @@ module _ (line : List ℕ) (at : ℕ) where
       go false e = (length line, field-none e)
 
   -- what the code's answers say of the bytes
-  pub number-spaced : (limit v n : ℕ) → number.Read v n ≡ number_field line (read_number limit (field_of (drop at line)))
+  pub number-spaced : (limit v n : ℕ) → Some (v, n) ≡ number_field line (read_number limit (field_of (drop at line)))
       → (read_number limit (field_of (drop at line)) ≡ found v (drop n line)) × (v ≤ limit)
   number-spaced limit v n q =
       let p = field-place in
@@ -134,7 +133,7 @@ module _ (line : List ℕ) (at : ℕ) where
       let t = number_read limit line p.0 v n (rw e q) in
       (rw (← e) t.reads, t.small)
 
-  set-spaced : (s : RoleSet) (n : ℕ) → set.Read s n ≡ set_field line (read_set (field_of (drop at line))) → read_set (field_of (drop at line)) ≡ found s.bits (drop n line)
+  set-spaced : (s : RoleSet) (n : ℕ) → Some (s, n) ≡ set_field line (read_set (field_of (drop at line))) → read_set (field_of (drop at line)) ≡ found s.bits (drop n line)
   set-spaced s n q =
       let p = field-place in
       let e : drop p.0 line ≡ field_of (drop at line) = p.1 in

@@ -7,7 +7,10 @@ use Prim.Native.Nat.{ℕ, ◌≤◌, ◌<◌}
 use native.Mathlib.Omega.{arith}
 use borrow.Author.Tests.{eqb-true, ne_eqb}
 use lib.Dec.{eqb}
-use lib.ListN.{length, drop, get_or, length-append}
+use lib.ListN.{length, drop, length-append}
+use denote.Bor.{Bor}
+use Rattle.std.specs.Prelude.{Option, Some, None}
+use Rattle.std.specs.Slice.{IsItemAt}
 use Rattle.roles.specs.declared.RoleSet.{RoleSet}
 use Rattle.roles.specs.Sets.{last_role, most_roles, Below}
 use Rattle.meaning.specs.declared.Happening.{Happening}
@@ -16,6 +19,7 @@ use Rattle.meaning.specs.Events.{last_permission, last_policy_state}
 use Rattle.text.specs.Ascii.{space, lf, Lacks}
 use Rattle.text.specs.Number.{number_text}
 use Rattle.text.proofs.Shape.{lacks-append}
+use Rattle.text.proofs.Walks.{lent-first, lent-none}
 use Rattle.text.proofs.Theorems.{number32-length, set-length, number-lacks-lf, set-lacks-lf}
 use Rattle.requests.specs.Fields.{last_count, ended, permission_set, permission_role}
 use Rattle.requests.specs.Request.{most_bytes, letter_o, letter_a, letter_d, letter_g, letter_r, letter_q, letter_f, letter_s, spaced, spaced_set, event_text, request_text, HappeningInRange, InRange, told, in_state, by_letter, request_of}
@@ -106,15 +110,15 @@ request-only (c ∷ t) =
 
 -- ---- the letter at the head of a line
 
-pub request-empty : (line : List ℕ) → length line ≡ 0 → Unreadable ≡ request_of line
-unfolding request_of
-request-empty [] e = refl
-request-empty (c ∷ t) e = absurd (omega arith)
+-- by the letter that `first` lends, if there is one
+module _ (line : List ℕ) {r : Option (Bor ℕ)} (g : IsItemAt line 0 r) where
+  pub request-empty : r ≡ None → Unreadable ≡ request_of line
+  unfolding request_of
+  request-empty e = rw (lent-none line 0 g e) refl
 
-pub request-letter : (k : ℕ) (line : List ℕ) → length line ≢ 0 → get_or line 0 0 ≡ k → by_letter k (drop 1 line) ≡ request_of line
-unfolding request_of
-request-letter k [] n e = absurd (n refl)
-request-letter k (c ∷ t) n e = rw e refl
+  pub request-letter : {x : Bor ℕ} (k : ℕ) → r ≡ Some x → x.now ≡ k → by_letter k (drop 1 line) ≡ request_of line
+  unfolding request_of
+  request-letter k e h = sym (ap request_of (rw h at (lent-first line 0 g e)))
 
 pub no-letter : (c : ℕ) (t : List ℕ) → c ≢ letter_o → c ≢ letter_a → c ≢ letter_d → c ≢ letter_g → c ≢ letter_r → c ≢ letter_q → c ≢ letter_f → c ≢ letter_s → Unreadable ≡ by_letter c t
 unfolding by_letter

@@ -8,18 +8,14 @@
 --     last_number other k limit t  `k v` of the text ` v` to the end of the line
 --     permission_set other k t     `k p s u` of the text ` p set`, and u behind it
 --     permission_role other k t    `k p r u` of the text ` p r`, and u behind it
---     permission_set_field line t, permission_role_field line t    the same as the enums of the code have it: the place behind the text stands for u
-use Rattle.std.specs.Prelude.{cond, List, [], ◌∷◌, ℕ, ◌-◌, length, drop}
+--     permission_set_field line t, permission_role_field line t    the same as the code has it: the place behind the text stands for u
+use Rattle.std.specs.Prelude.{cond, List, [], ◌∷◌, ℕ, ◌-◌, length, drop, Option, Some, None}
 use Rattle.roles.specs.declared.RoleSet.{RoleSet}
 use Rattle.roles.specs.Sets.{last_role}
 use Rattle.meaning.specs.Events.{last_permission}
 use Rattle.text.specs.Ascii.{space}
 use Rattle.text.specs.Number.{Got, found, bad, next_is, read_number}
 use Rattle.text.specs.Set.{read_set}
-use Rattle.requests.specs.declared.PermissionSet.{PermissionSet}
-use Rattle.requests.specs.declared.PermissionSet.TheVariants as set
-use Rattle.requests.specs.declared.PermissionRole.{PermissionRole}
-use Rattle.requests.specs.declared.PermissionRole.TheVariants as role
 
 abbrev pub last_count : ℕ
 last_count = 255
@@ -50,8 +46,8 @@ permission_set other k t = number_then other (λ p u. set_then other (k p) u) la
 unfoldable pub permission_role : {A : Type 0} → A → (ℕ → ℕ → List ℕ → A) → List ℕ → A
 permission_role other k t = number_then other (λ p u. number_then other (k p) last_role u) last_permission t
 
-abbrev pub permission_set_field : List ℕ → List ℕ → PermissionSet
-permission_set_field line t = permission_set set.Bad (λ p s u. set.Read p s (length line - length u)) t
+abbrev pub permission_set_field : List ℕ → List ℕ → Option (ℕ × RoleSet × ℕ)
+permission_set_field line t = permission_set None (λ p s u. Some (p, s, length line - length u)) t
 
-abbrev pub permission_role_field : List ℕ → List ℕ → PermissionRole
-permission_role_field line t = permission_role role.Bad (λ p r u. role.Read p r (length line - length u)) t
+abbrev pub permission_role_field : List ℕ → List ℕ → Option (ℕ × ℕ × ℕ)
+permission_role_field line t = permission_role None (λ p r u. Some (p, r, length line - length u)) t

@@ -10,7 +10,8 @@
 --     in_state k t             `k g` of the policy state g that the line ends with
 --     by_letter c t            the request of a line with the letter c and then t
 --     request_of s             the request that a line's bytes say
-use Rattle.std.specs.Prelude.{cond, List, [], ◌∷◌, ◌++◌, ℕ, ◌≤◌, eqb}
+--     EventOf M l f q          of the line l's fields f, a permission and what M makes a happening of, and the place behind them, the request is q
+use Rattle.std.specs.Prelude.{cond, List, [], ◌∷◌, ◌++◌, ℕ, ◌≤◌, eqb, drop, ◌≡◌, Option, Some, None}
 use Rattle.roles.specs.declared.RoleSet.{RoleSet}
 use Rattle.roles.specs.Sets.{last_role, most_roles, Below}
 use Rattle.meaning.specs.declared.Happening.{Happening}
@@ -105,3 +106,7 @@ by_letter c t =
 unfoldable pub request_of : List ℕ → Request
 request_of [] = Unreadable
 request_of (c ∷ t) = by_letter c t
+
+abbrev pub EventOf : {A : Type 0} → (A → Happening → Type 0) → List ℕ → Option (ℕ × A × ℕ) → Request → Type 0
+EventOf M l None q = q ≡ Unreadable
+EventOf M l (Some f) q = (e : Happening) × M f.1 e × (q ≡ in_state (told f.0 e) (drop f.2 l))

@@ -6,11 +6,10 @@ ghost use Rattle.text.specs.Number.{read_number};
 ghost use Rattle.text.specs.Set.{read_set};
 ghost use Rattle.text.specs.Field.{number_field, set_field};
 ghost use Rattle.requests.specs.Fields.{field_of, last_number, permission_set_field, permission_role_field};
-ghost use Rattle.requests.specs.Request.{letter_o, letter_a, letter_d, letter_g, letter_r, letter_q, letter_f, letter_s, told, in_state, by_letter, request_of};
+ghost use Rattle.requests.specs.Request.{letter_o, letter_q, letter_f, letter_s, by_letter, EventOf, request_of};
 
 use meaning::{Event, Happening, LAST_PERMISSION, LAST_POLICY_STATE};
 use roles::{LAST_ROLE, RoleSet};
-use text::{NumberField, SetField};
 
 // A line has at most so many bytes before its LF.
 pub const MOST_BYTES: usize = 216;
@@ -18,7 +17,7 @@ pub const MOST_BYTES: usize = 216;
 // The largest role count that a line can say.
 const LAST_COUNT: u64 = 255;
 
-// What a line asks for.
+// What a line asks for. A line that asks for nothing is one of them, as it is answered too, with 9, and not the None of an Option.
 #[derive(Clone, Copy)]
 pub enum Request {
     Open(u64, u32),
@@ -27,35 +26,6 @@ pub enum Request {
     Forget(u32),
     Show,
     Unreadable,
-}
-
-// A number that is the last field.
-#[derive(Clone, Copy)]
-enum LastNumber {
-    Value(u64),
-    Bad,
-}
-
-// The fields `p set`, and the place behind them.
-#[derive(Clone, Copy)]
-enum PermissionSet {
-    Read {
-        permission: u32,
-        set: RoleSet,
-        next: usize,
-    },
-    Bad,
-}
-
-// The fields `p r`, and the place behind them.
-#[derive(Clone, Copy)]
-enum PermissionRole {
-    Read {
-        permission: u32,
-        role: u64,
-        next: usize,
-    },
-    Bad,
 }
 
 // The place of the field behind the space at the place `at`; without a space the line's end, where no field reads.
@@ -69,8 +39,9 @@ fn field_at(line: &[u8], at: usize) -> usize
     }
 }
 
-// A number of at most the limit, behind the space at the place `at`.
-fn number_field(line: &[u8], at: usize, limit: u64) -> NumberField
+// A number of at most the limit, behind the space at the place `at`. `set_field` is its twin: of one line each, they would be no
+// plainer as one.
+fn number_field(line: &[u8], at: usize, limit: u64) -> Option<(u64, usize)>
     requires { limit < 2 ^ 32 }
     ensures { result ≡ number_field line.now (read_number limit (field_of (drop at line.now))) }
 {
@@ -78,66 +49,60 @@ fn number_field(line: &[u8], at: usize, limit: u64) -> NumberField
 }
 
 // A set, behind the space at the place `at`.
-fn set_field(line: &[u8], at: usize) -> SetField
+fn set_field(line: &[u8], at: usize) -> Option<(RoleSet, usize)>
     ensures { result ≡ set_field line.now (read_set (field_of (drop at line.now))) }
 {
     text::read_set(line, field_at(line, at))
 }
 
 // A number of at most the limit, from the space at the place `at` to the end of the line.
-fn last_number(line: &[u8], at: usize, limit: u64) -> LastNumber
+fn last_number(line: &[u8], at: usize, limit: u64) -> Option<u64>
     requires { limit < 2 ^ 32 }
-    ensures { result ≡ last_number LastNumber.Bad LastNumber.Value limit (drop at line.now) }
+    ensures { result ≡ last_number None Some limit (drop at line.now) }
 {
-    let NumberField::Read { value, next } = number_field(line, at, limit) else {
-        return LastNumber::Bad;
-    };
+    let (value, next) = number_field(line, at, limit)?;
     if line.len() <= next {
-        LastNumber::Value(value)
+        Some(value)
     } else {
-        LastNumber::Bad
+        None
     }
 }
 
-// A permission and a set, behind the letter.
-fn permission_set(line: &[u8]) -> PermissionSet
+// A permission and a set, behind the letter, and the place behind them.
+fn permission_set(line: &[u8]) -> Option<(u32, RoleSet, usize)>
     ensures { result ≡ permission_set_field line.now (drop 1 line.now) }
 {
-    let NumberField::Read { value, next } = number_field(line, 1, LAST_PERMISSION) else {
-        return PermissionSet::Bad;
-    };
-    let SetField::Read { set, next } = set_field(line, next) else {
-        return PermissionSet::Bad;
-    };
-    PermissionSet::Read {
-        permission: value as u32,
-        set,
-        next,
-    }
+    let (permission, next) = number_field(line, 1, LAST_PERMISSION)?;
+    let (set, next) = set_field(line, next)?;
+    Some((permission as u32, set, next))
 }
 
-// A permission and a role, behind the letter.
-fn permission_role(line: &[u8]) -> PermissionRole
+// A permission and a role, behind the letter, and the place behind them. One function for both would take the second reader as a
+// closure, and be no shorter.
+fn permission_role(line: &[u8]) -> Option<(u32, u64, usize)>
     ensures { result ≡ permission_role_field line.now (drop 1 line.now) }
 {
-    let NumberField::Read { value, next } = number_field(line, 1, LAST_PERMISSION) else {
-        return PermissionRole::Bad;
-    };
-    let NumberField::Read { value: role, next } = number_field(line, next, LAST_ROLE) else {
-        return PermissionRole::Bad;
-    };
-    PermissionRole::Read {
-        permission: value as u32,
-        role,
-        next,
-    }
+    let (permission, next) = number_field(line, 1, LAST_PERMISSION)?;
+    let (role, next) = number_field(line, next, LAST_ROLE)?;
+    Some((permission as u32, role, next))
 }
 
-// An event, whose policy state stands from the space at the place `at` to the end of the line.
-fn told_of(line: &[u8], at: usize, permission: u32, happening: Happening) -> Request
-    ensures { result ≡ in_state (told permission happening) (drop at line.now) }
+// An event, if its fields were read: `happening` makes it of the second one. Its policy state stands behind them, at the end of
+// the line.
+fn event_of<T: Copy, F: FnOnce(T) -> Happening>(
+    line: &[u8],
+    fields: Option<(u32, T, usize)>,
+    happening: F,
+) -> Request
+    requires { F.IsAlwaysCallable happening }
+    ensures { EventOf (F.post happening) line.now fields result }
 {
-    let LastNumber::Value(state) = last_number(line, at, LAST_POLICY_STATE) else {
+    let Some(fields) = fields else {
+        return Request::Unreadable;
+    };
+    let (permission, field, next) = fields;
+    let happening = happening(field);
+    let Some(state) = last_number(line, next, LAST_POLICY_STATE) else {
         return Request::Unreadable;
     };
     Request::Told(Event {
@@ -151,85 +116,20 @@ fn told_of(line: &[u8], at: usize, permission: u32, happening: Happening) -> Req
 fn open_of(line: &[u8]) -> Request
     ensures { result ≡ by_letter letter_o (drop 1 line.now) }
 {
-    let NumberField::Read { value, next } = number_field(line, 1, LAST_COUNT) else {
+    let Some((count, next)) = number_field(line, 1, LAST_COUNT) else {
         return Request::Unreadable;
     };
-    let LastNumber::Value(state) = last_number(line, next, LAST_POLICY_STATE) else {
+    let Some(state) = last_number(line, next, LAST_POLICY_STATE) else {
         return Request::Unreadable;
     };
-    Request::Open(value, state as u32)
-}
-
-// `A p set state`
-fn allow_of(line: &[u8]) -> Request
-    ensures { result ≡ by_letter letter_a (drop 1 line.now) }
-{
-    let PermissionSet::Read {
-        permission,
-        set,
-        next,
-    } = permission_set(line)
-    else {
-        return Request::Unreadable;
-    };
-    told_of(line, next, permission, Happening::Allow(set))
-}
-
-// `D p set state`
-fn deny_of(line: &[u8]) -> Request
-    ensures { result ≡ by_letter letter_d (drop 1 line.now) }
-{
-    let PermissionSet::Read {
-        permission,
-        set,
-        next,
-    } = permission_set(line)
-    else {
-        return Request::Unreadable;
-    };
-    told_of(line, next, permission, Happening::Deny(set))
-}
-
-// `G p r state`
-fn given_of(line: &[u8]) -> Request
-    ensures { result ≡ by_letter letter_g (drop 1 line.now) }
-{
-    let PermissionRole::Read {
-        permission,
-        role,
-        next,
-    } = permission_role(line)
-    else {
-        return Request::Unreadable;
-    };
-    told_of(line, next, permission, Happening::Given(role))
-}
-
-// `R p r state`
-fn withdrawn_of(line: &[u8]) -> Request
-    ensures { result ≡ by_letter letter_r (drop 1 line.now) }
-{
-    let PermissionRole::Read {
-        permission,
-        role,
-        next,
-    } = permission_role(line)
-    else {
-        return Request::Unreadable;
-    };
-    told_of(line, next, permission, Happening::Withdrawn(role))
+    Request::Open(count, state as u32)
 }
 
 // `Q p set`
 fn decide_of(line: &[u8]) -> Request
     ensures { result ≡ by_letter letter_q (drop 1 line.now) }
 {
-    let PermissionSet::Read {
-        permission,
-        set,
-        next,
-    } = permission_set(line)
-    else {
+    let Some((permission, set, next)) = permission_set(line) else {
         return Request::Unreadable;
     };
     if next < line.len() {
@@ -242,10 +142,10 @@ fn decide_of(line: &[u8]) -> Request
 fn forget_of(line: &[u8]) -> Request
     ensures { result ≡ by_letter letter_f (drop 1 line.now) }
 {
-    let LastNumber::Value(p) = last_number(line, 1, LAST_PERMISSION) else {
+    let Some(permission) = last_number(line, 1, LAST_PERMISSION) else {
         return Request::Unreadable;
     };
-    Request::Forget(p as u32)
+    Request::Forget(permission as u32)
 }
 
 // `S`
@@ -263,15 +163,15 @@ fn show_of(line: &[u8]) -> Request
 pub fn read_request(line: &[u8]) -> Request
     ensures { result ≡ request_of line.now }
 {
-    if line.len() == 0 {
+    let Some(letter) = line.first() else {
         return Request::Unreadable;
-    }
-    match line[0] {
+    };
+    match letter {
         b'O' => open_of(line),
-        b'A' => allow_of(line),
-        b'D' => deny_of(line),
-        b'G' => given_of(line),
-        b'R' => withdrawn_of(line),
+        b'A' => event_of(line, permission_set(line), Happening::Allow),
+        b'D' => event_of(line, permission_set(line), Happening::Deny),
+        b'G' => event_of(line, permission_role(line), Happening::Given),
+        b'R' => event_of(line, permission_role(line), Happening::Withdrawn),
         b'Q' => decide_of(line),
         b'F' => forget_of(line),
         b'S' => show_of(line),

@@ -1,8 +1,9 @@
 -- Laws of whole sets, each proved role by role, one chapter for each operation. Assumes nothing.
-use mathlib.Core.Path.{◌≡◌, refl, subst, subst⁻¹}
-use mathlib.Core.Logic.{◌↔◌, ◌≢◌, ◌⊎◌, inl, inr, ⊎_elim}
+use mathlib.Core.Path.{◌≡◌, refl, ap, ◌∙◌, subst, subst⁻¹}
+use mathlib.Core.Logic.{◌↔◌, ◌≢◌, ◌⊎◌, inl, inr, ⊎_elim, by_cases}
 use Prim.Native.Nat.{ℕ, ◌^◌, ◌≤◌, ◌<◌}
-use native.Mathlib.Nat.{mod-eq_of_lt, lt_of_lt_of_le}
+use native.Mathlib.Nat.{mod-eq_of_lt, lt_of_lt_of_le, le_of_lt}
+use native.Mathlib.Decide.{dec_lt}
 use native.Mathlib.Omega.{arith}
 use lib.Bits.{and_le_r}
 use lib.Dec.{T, ltb, leb, leb→le, le→leb, ltb→lt, lt→ltb}
@@ -84,6 +85,16 @@ part_of-all_below n s = (
   (λ p. part_of-below n s (all_below n) p (all_below-below n)),
   λ h. (part_of-law s (all_below n)).1 (λ r i. (in-all_below n r).1 ((below-law n s).0 h r i)),
 )
+
+-- a set of roles 0 to 63 is held against as many of them as there are
+pub part_of-below64-all : (n s : ℕ) → s < 2 ^ most_roles → part_of s (below64 (all_below n)) ≡ part_of s (all_below n)
+part_of-below64-all n s b =
+    by_cases (dec_lt n most_roles)
+    (λ h. ap (part_of s) (below64-all_below n (le_of_lt h)))
+    (λ h.
+    ap (part_of s) (below64-all n (omega arith))
+    ∙ T-ext (part_of s (all_below most_roles)) (part_of s (all_below n))
+    ((λ t. (part_of-all_below n s).1 (lt_of_lt_of_le b (pow_mono (let z : most_roles ≤ n = omega arith in z)))), λ t. (part_of-all_below most_roles s).1 b))
 
 -- and exactly when it is at most their set, as a number
 pub leb-all_below : (n s : ℕ) → T (leb s (all_below n)) ↔ (s < 2 ^ n)

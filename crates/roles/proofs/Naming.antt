@@ -1,6 +1,6 @@
 -- The lowest role of a set, and the part test that names one: 64 exactly where a set is part of another. Assumes nothing.
-use mathlib.Core.Path.{◌≡◌, refl, sym, ◌∙◌, subst, subst⁻¹}
-use mathlib.Core.Bool.{true, false}
+use mathlib.Core.Path.{◌≡◌, refl, sym, ap, ◌∙◌, subst, subst⁻¹}
+use mathlib.Core.Bool.{Bool, true, false, cond}
 use mathlib.Core.Logic.{◌≢◌, ⊎_elim, by_cases}
 use Prim.Native.Nat.{ℕ, zero, suc, ◌≤◌, ◌<◌, ◌/◌, ◌%◌}
 use native.Mathlib.Nat.{mod-lt}
@@ -9,7 +9,8 @@ use native.Mathlib.Omega.{arith}
 use borrow.Author.Tests.{eq-eqb}
 use lib.Count.{count_trailing_zeros, under, trailing_le}
 use lib.Dec.{T, not_T, eqb, eqb→eq}
-use Rattle.roles.specs.Sets.{most_roles, In, without, part_of, Below, lowest, outside, Names}
+use Rattle.std.specs.Prelude.{Option, None, Some}
+use Rattle.roles.specs.Sets.{most_roles, In, without, part_of, Below, lowest, outside, role_named, Names}
 use Rattle.roles.proofs.Tests.{T_true, T_false, T-ext}
 use Rattle.roles.proofs.Digits.{two_pos, has-zero, has-suc}
 use Rattle.roles.proofs.Member.{in?, in_without, part_of-law, below-law}
@@ -89,3 +90,27 @@ module _ (s t : ℕ) (b : Below most_roles s) {r : ℕ} (e : r ≡ outside s t) 
     (λ h. none-outside s t b (sym e ∙ eqb→eq r most_roles h)),
     λ p. subst⁻¹ T (eq-eqb r most_roles (e ∙ part-named s t b p)) tt,
   )
+
+-- ---- the test's answer as code gives it: none where s is part of t
+
+module _ (s t : ℕ) (b : Below most_roles s) where
+  pub named-is : role_named (outside s t) ≡ cond (part_of s t) None (Some (outside s t))
+  unfolding role_named
+  named-is = ap (λ (x : Bool). cond x None (Some (outside s t))) (part-test s t b refl)
+
+  told : {o : Option ℕ} → o ≡ role_named (outside s t) → o ≡ cond (part_of s t) None (Some (outside s t))
+  told e = e ∙ named-is
+
+  pub none-part : None ≡ role_named (outside s t) → part_of s t ≡ true
+  none-part e = go (part_of s t) (told e)
+    where
+      go : (x : Bool) → None ≡ cond x None (Some (outside s t)) → x ≡ true
+      go true h = refl
+      go false h = cc
+
+  pub named-no-part : {r : ℕ} → Some r ≡ role_named (outside s t) → (part_of s t ≡ false) × (r ≡ outside s t)
+  named-no-part {r} e = go (part_of s t) (told e)
+    where
+      go : (x : Bool) → Some r ≡ cond x None (Some (outside s t)) → (x ≡ false) × (r ≡ outside s t)
+      go true h = cc
+      go false h = (refl, cc)

@@ -14,8 +14,11 @@
 --     set_of l           the set of the roles of a list
 --     lowest s           the lowest role of s, and 64 where it has none below 64
 --     outside s t        the lowest role of s that is not in t, and 64 where there is none below 64
+--     role_named r       the role r, and none where r is 64
+--     roles_from k r s   the roles of s among the k from r on, ascending
+--     roles_of s         the roles of s, ascending
 --     Names s t r        r is 64 exactly where s is part of t; else it is the lowest role that is in s and not in t
-use Rattle.std.specs.Prelude.{◌≡◌, Bool, not, List, [], ◌∷◌, ◌↔◌, ◌≢◌, ℕ, ◌-◌, ◌/◌, ◌%◌, ◌^◌, ◌<◌, T, eqb}
+use Rattle.std.specs.Prelude.{◌≡◌, Bool, not, cond, List, [], ◌∷◌, Option, None, Some, ◌↔◌, ◌≢◌, ℕ, zero, suc, ◌-◌, ◌/◌, ◌%◌, ◌^◌, ◌<◌, T, eqb}
 use Rattle.std.specs.Int.Bits.{bit_and, bit_or, bit_xor}
 use Rattle.std.specs.Int.Count.{count_trailing_zeros}
 
@@ -67,6 +70,16 @@ lowest s = count_trailing_zeros most_roles s
 
 unfoldable pub outside : ℕ → ℕ → ℕ
 outside s t = lowest (without s t)
+
+unfoldable pub role_named : ℕ → Option ℕ
+role_named r = cond (eqb r most_roles) None (Some r)
+
+unfoldable pub roles_from : ℕ → ℕ → ℕ → List ℕ
+roles_from zero r s = []
+roles_from (suc k) r s = cond (has s r) (r ∷ roles_from k (suc r) s) (roles_from k (suc r) s)
+
+unfoldable pub roles_of : ℕ → List ℕ
+roles_of s = roles_from most_roles 0 s
 
 pub record Names (s t r : ℕ) : Type 0 where
   pub part : (r ≡ most_roles) ↔ T (part_of s t)

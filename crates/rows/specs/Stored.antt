@@ -5,17 +5,19 @@
 --     Tidy m l             `l` is so stored, with at most m open sets
 --     Proper l             `l` is so stored, with at most 15 open sets, ascending, none part of another
 --     row_of, stored_row   the same for a row
---     answer_number, decided_of    the number of each answer, and the decision of each verdict: Rules, Answers
---     Gives t r            `r` is the answer and the row of t
-use Rattle.std.specs.Prelude.{◌≡◌, List, ◌++◌, ℕ, ◌+◌, ◌-◌, ◌≤◌, length, take, replicate}
+--     decided_of           the decision of each verdict: Rules, Answers
+--     refusal_number       the number of each refusal
+--     Gives v t r          `r` is what t says of an event on the row v: the row of t, that nothing is known, or a refusal, which leaves v
+use Rattle.std.specs.Prelude.{◌≡◌, List, ◌++◌, ℕ, ◌+◌, ◌-◌, ◌≤◌, length, take, replicate, Result, Ok, Err}
 use Rattle.meaning.specs.Rows as meaning
 use Rattle.rows.specs.declared.OpenSets.{OpenSets}
 use Rattle.rows.specs.declared.Row.{Row}
-use Rattle.rows.specs.declared.Answer.{Answer}
-use Rattle.rows.specs.declared.Answer.TheVariants.{Recorded, Contradiction, Full, Forgotten}
+use Rattle.rows.specs.declared.Refusal.{Refusal}
+use Rattle.rows.specs.declared.Refusal.TheVariants.{Contradiction, Full}
 use Rattle.rows.specs.declared.Verdict.{Verdict}
 use Rattle.rows.specs.declared.Verdict.TheVariants.{Deny, Allow, Undecided}
 use Rattle.rows.specs.declared.Settled.{Settled}
+use Rattle.rows.specs.declared.Settled.TheVariants.{Recorded, Forgotten}
 
 abbrev pub held : OpenSets → List ℕ
 held l = take l.count l.sets
@@ -43,17 +45,16 @@ row_of w = record { denied = w.denied.bits; opens = held w.opens }
 abbrev pub stored_row : meaning.Row → Row
 stored_row w = record { denied = record { bits = w.denied }; opens = stored w.opens }
 
-abbrev pub answer_number : Answer → ℕ
-answer_number Recorded = 0
-answer_number Contradiction = 6
-answer_number Full = 7
-answer_number Forgotten = 8
-
 abbrev pub decided_of : Verdict → meaning.Decided
 decided_of Deny = meaning.bare 10
 decided_of Allow = meaning.bare 11
 decided_of (Undecided r) = meaning.undecided r
 
-pub record Gives (t : meaning.Settled) (r : Settled) : Type 0 where
-  pub answer : answer_number r.answer ≡ t.answer
-  pub row : r.row ≡ stored_row t.row
+abbrev pub refusal_number : Refusal → ℕ
+refusal_number Contradiction = 6
+refusal_number Full = 7
+
+abbrev pub Gives : meaning.Row → meaning.Settled → Result Settled Refusal → Type 0
+Gives v t (Ok (Recorded w)) = (t.answer ≡ 0) × (w ≡ stored_row t.row)
+Gives v t (Ok Forgotten) = t ≡ meaning.forgotten
+Gives v t (Err r) = t ≡ meaning.unchanged (refusal_number r) v

@@ -1,6 +1,6 @@
 -- What the calls of `print` wrote, one behind the other. Assumes nothing.
 use mathlib.Core.Path.{◌≡◌, refl, sym, ap, ◌∙◌}
-use mathlib.Core.Bool.{Bool, true, false, false≢true}
+use mathlib.Core.Bool.{true, false, false≢true}
 use mathlib.Core.List.{List, [], ◌∷◌, ◌++◌, append_assoc, append-nil}
 use mathlib.Core.Logic.{by_cases}
 use Prim.Native.Nat.{ℕ, suc, ◌+◌, ◌*◌, ◌≤◌, ◌<◌}
@@ -16,14 +16,29 @@ use Rattle.area.proofs.RowLaws.{none}
 use Rattle.area.proofs.Bytes.{good-state}
 use Rattle.table.specs.Table.{rows_in, nth}
 use Rattle.written.specs.Print.{Print, Prints}
+use Rattle.written.specs.Result.{number_of}
+use Rattle.written.specs.declared.Refusal.{Refusal}
+use Rattle.written.specs.declared.Refusal.TheVariants.{BadArea, NoPermission, UnknownRole, ShortBuffer, BadNameTable, NoRow}
 use Rattle.written.specs.declared.Written.{Written}
 use Rattle.print.specs.Printed.{open_line, row_lines, printed}
 use Rattle.print.specs.Print.{least_room, print_open_of, print_row_of}
 use Rattle.print.proofs.PrintLaws.{by-area, open-bad, open-writes, row-none, row-writes, is-good, open-fits, row_fits}
-use Rattle.service.specs.declared.PrintEnd.{PrintEnd}
-use Rattle.service.specs.PrintedOut.{handed_on, PrintedOut}
+use Rattle.std.proofs.Common.{Ok, Err, IsOk}
+use Rattle.std.specs.declared.result.Result.{Result}
+use Rattle.std.specs.declared.io.Error.{Error}
+use Rattle.service.specs.declared.PrintError.{PrintError}
+use Rattle.service.specs.declared.PrintError.TheVariants as not_printed
+use Rattle.service.specs.PrintedOut.{handed_over, handed_on, PrintedOut}
 
 -- ---- what a call answered
+
+pub refused-number : (r : Refusal) → ¬ (number_of r ≡ 0)
+refused-number BadArea z = omega arith
+refused-number NoPermission z = omega arith
+refused-number UnknownRole z = omega arith
+refused-number ShortBuffer z = omega arith
+refused-number BadNameTable z = omega arith
+refused-number NoRow z = omega arith
 
 answer-of : {o p : Print} {w : Written} {e : List ℕ} → Prints o w e → o ≡ p → w.answer ≡ p.answer
 answer-of s q = s.answer ∙ ap (λ (x : Print). x.answer) q
@@ -89,60 +104,75 @@ text-all l i h = ap (λ (es : List Entry). open_line (state_of l) ++ each (lines
 
 -- ---- turn by turn
 
--- the O line and `row` rows of a good area were handed over
-pub record Going (l : List ℕ) (row : ℕ) (r : PrintEnd) : Type 0 where
+-- the O line and `row` rows of a good area were handed over, n bytes
+pub record Going (l : List ℕ) (row n : ℕ) : Type 0 where
   pub good : good_bytes l ≡ true
   pub rows : row ≤ length (rows_in l)
   pub most : length (rows_in l) ≤ most_rows
-  pub answer : r.answer ≡ 0
-  pub bytes : r.bytes ≡ length (text_to l row)
-  pub few : r.bytes ≤ (row + 1) * least_room
+  pub bytes : n ≡ length (text_to l row)
+  pub few : n ≤ (row + 1) * least_room
 
 module _ (l d : List ℕ) (room : least_room ≤ length d) {w : Written} {e : List ℕ} (s : Prints (print_open_of l d) w e) (z : w.answer ≡ 0) where
-  pub starts : (all : Bool) {r : PrintEnd} → r ≡ handed_on all w.bytes (record { answer = w.answer; all = false; bytes = 0 }) → Going l 0 r
-  starts all q =
+  pub starts : (n : ℕ) → n ≡ 0 + w.bytes → Going l 0 n
+  starts n b =
       let o = opened l d room s z in
-      let b = ap (λ (x : PrintEnd). x.bytes) q in
       record {
         good = o.0;
         rows = omega arith;
         most = (good-state l (is-good l o.0)).most-rows;
-        answer = ap (λ (x : PrintEnd). x.answer) q ∙ z;
         bytes = omega (arith, b, o.1, text-start l);
         few = omega (arith, b, o.2);
       }
 
-module _ (l d : List ℕ) (row : ℕ) {r : PrintEnd} (g : Going l row r) (room : least_room ≤ length d) {w : Written} {e : List ℕ} (s : Prints (print_row_of l row d) w e) where
-  pub goes_on : w.answer ≡ 0 → (all : Bool) {q : PrintEnd} → q ≡ handed_on all w.bytes r → Going l (row + 1) q
-  goes_on z all p =
+module _ (l d : List ℕ) (row : ℕ) {m : ℕ} (g : Going l row m) (room : least_room ≤ length d) {w : Written} {e : List ℕ} (s : Prints (print_row_of l row d) w e) where
+  pub goes_on : w.answer ≡ 0 → (n : ℕ) → n ≡ m + w.bytes → Going l (row + 1) n
+  goes_on z n b =
       let o = row-printed l d row g.good room s z in
-      let b = ap (λ (x : PrintEnd). x.bytes) p in
       record {
         good = g.good;
         rows = omega (arith, o.0);
         most = g.most;
-        answer = ap (λ (x : PrintEnd). x.answer) p ∙ g.answer;
         bytes = rw add-one (omega (arith, b, o.1, text-more l row o.0, g.bytes));
         few = omega (arith, b, o.2, g.few);
       }
 
-pub goes-printed : {l : List ℕ} {row : ℕ} {r : PrintEnd} → Going l row r → (r.all ≡ true → length (rows_in l) ≤ row) → PrintedOut l r
-goes-printed {l} {row} {r} g h = record {
+record HandedOver (n : ℕ) (r : Result ℕ PrintError) : Type 0 where
+  bytes : handed_over r ≡ n
+  good : ¬ (r ≡ Err not_printed.BadArea)
+
+handed : (t : Result (Unit {0}) Error) (n : ℕ) → HandedOver n (handed_on t n)
+handed (Ok u) n = record { bytes = refl; good = λ e. cc }
+handed (Err why) n = record { bytes = refl; good = λ e. cc }
+
+pub handed-bytes : (t : Result (Unit {0}) Error) (n : ℕ) {b : ℕ} → Ok b ≡ handed_on t n → b ≡ n
+handed-bytes (Ok u) n e = cc
+handed-bytes (Err why) n e = absurd cc
+
+goes-printed : {l : List ℕ} {row n : ℕ} (r : Result ℕ PrintError) → Going l row n → HandedOver n r → (IsOk r → length (rows_in l) ≤ row) → PrintedOut l r
+goes-printed {l} {row} {n} r g o h = record {
   text = text_to l row;
-  handed = g.bytes;
+  handed = o.bytes ∙ g.bytes;
   bad = λ b. absurd (false≢true (sym b ∙ g.good));
-  good = λ b. (g.answer, each (lines_in l) (drop row (rows_in l)), text-begins l row);
+  good = λ b. (o.good, each (lines_in l) (drop row (rows_in l)), text-begins l row);
   all = λ b a. text-all l row (h a);
 }
 
+-- the output stopped taking it
+pub goes-cut : {l : List ℕ} {row n : ℕ} (e : PrintError) → Going l row n → (t : Result (Unit {0}) Error) → Err e ≡ handed_on t n → PrintedOut l (Err e)
+goes-cut {l} {row} {n} e g t q = goes-printed (Err e) g (rw q (handed t n)) (λ k. absurd (false≢true k))
+
+-- no row is left
+pub goes-whole : {l : List ℕ} {row : ℕ} (n : ℕ) → Going l row n → length (rows_in l) ≤ row → PrintedOut l (Ok n)
+goes-whole n g h = goes-printed (Ok n) g (record { bytes = refl; good = λ e. cc }) (λ k. h)
+
 pub none-printed : (l d : List ℕ) → least_room ≤ length d → {w : Written} {e : List ℕ} → Prints (print_open_of l d) w e → ¬ (w.answer ≡ 0)
-    → PrintedOut l (record { answer = w.answer; all = false; bytes = 0 })
+    → PrintedOut l (Err not_printed.BadArea)
 none-printed l d room {w} {e} s n =
     let o = not_opened l d room s n in
     record {
       text = [];
       handed = refl;
-      bad = λ b. (o.1, refl);
+      bad = λ b. (refl, refl);
       good = λ b. absurd (false≢true (sym o.0 ∙ b));
       all = λ b. absurd (false≢true (sym o.0 ∙ b));
     }

@@ -5,8 +5,7 @@
 --     Named n              the name n has 1 to `most_name` bytes
 --     Chosen k w n r       of k arguments, the program's own name among them, w the first and n the second: r is what is asked for
 --     Joined a n b r e     the first r bytes of e are a, the name n and b
---     Tellable n           n is no longer than the name of a new file: there is room for messages about it
-use Rattle.std.specs.Prelude.{◌≡◌, List, [], ◌∷◌, ◌++◌, ◌↔◌, ℕ, ◌+◌, ◌≤◌, length}
+use Rattle.std.specs.Prelude.{◌≡◌, List, [], ◌∷◌, ◌++◌, ◌↔◌, ℕ, ◌≤◌, length}
 pub use Rattle.files.specs.Messages.{Joined}
 use Rattle.service.specs.declared.Asked.{Asked}
 use Rattle.service.specs.declared.Asked.TheVariants.{Print, Feed, BadName}
@@ -33,6 +32,3 @@ pub record Chosen (k : ℕ) (w n : List ℕ) (r : Asked) : Type 0 where
   pub prints : (r ≡ Print) ↔ ((k ≡ 3) × Named n × (w ≡ say_print))
   pub feeds : (r ≡ Feed) ↔ ((k ≡ 3) × Named n × (w ≡ say_feed))
   pub bad-name : (r ≡ BadName) ↔ ((k ≡ 3) × ¬ (Named n))
-
-abbrev pub Tellable : List ℕ → Type 0
-Tellable n = length n ≤ most_name + length ending

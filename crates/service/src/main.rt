@@ -5,28 +5,24 @@
 
 mod outside;
 
-ghost use Rattle.std.specs.Prelude.{◌≡◌, true, ◌||◌, ◌+◌, ◌*◌, ◌≤◌, T, length, replicate, take};
+ghost use Rattle.std.specs.Prelude.{◌≡◌, ◌+◌, ◌*◌, ◌≤◌, T, length, take};
 ghost use Rattle.io.specs.Counts.{IsPrefixLen};
 ghost use Rattle.area.specs.Layout.{most_rows, good_bytes};
 ghost use Rattle.answers.specs.Texts.{most_text};
 ghost use Rattle.print.specs.Print.{least_room};
-ghost use Rattle.service.specs.Names.{new_name, Named, Chosen, Tellable};
-ghost use Rattle.service.specs.Stored.{load_bytes, LoadedInto, Starts, Ready, Naming};
+ghost use Rattle.service.specs.Names.{new_name, Named, Chosen};
+ghost use Rattle.service.specs.Stored.{load_bytes, Filled, Starts};
 ghost use Rattle.service.specs.PrintedOut.{handed_on, PrintedOut};
 ghost use Rattle.service.specs.FedAs.{FedAs};
 
-use area::AREA_BYTES;
-use files::outside::{Loaded, argument, argument_count, load, no_reason, say};
-use files::{join, tell, tell_bad_area, tell_refused};
-use outside::{Made, make, remove, store};
+use area::{AREA_BYTES, MOST_ROWS};
+use files::outside::{LoadError, Loaded, argument, argument_count, load, say};
+use files::{LOAD_BYTES, Told, join, load_or_tell, tell, tell_bad_area, tell_refused};
+use outside::{Made, MakeError, StoreError, make, remove, store};
 use print::{print_open, print_row};
 use std::io::{Error, Read, Write};
-use stream::answer_input;
 use stream::outside::{Sent, write_first};
-use written::Written;
-
-// One byte more than an area has, so that a longer file is seen.
-const LOAD_BYTES: usize = AREA_BYTES + 1;
+use stream::{Stand, answer_input};
 
 // The system takes names of up to 4,095 bytes, and the new file's has four more than the area's.
 const MOST_NAME: usize = 4091;
@@ -65,6 +61,21 @@ fn asked_for(count: usize, word: &[u8], name: &[u8]) -> Asked
 
 // ---- names and messages
 
+// The name of an area: 1 to 4,091 bytes.
+#[derive(Clone, Copy)]
+struct AreaName<'a> {
+    told: Told<'a>,
+    ghost named: { Named told.bytes.now },
+}
+
+// The name of an area, and that of the new file beside it, which is to take its place.
+#[derive(Clone, Copy)]
+struct Names<'a, 'n> {
+    area: AreaName<'a>,
+    new: Told<'n>,
+    ghost beside: { new.bytes.now ≡ new_name area.told.bytes.now },
+}
+
 // The name of the new file.
 fn new_name(name: &[u8], out: &mut [u8]) -> usize
     requires { length name.now + 4 ≤ length out.old }
@@ -73,186 +84,161 @@ fn new_name(name: &[u8], out: &mut [u8]) -> usize
     join(b"", name, b".new", out)
 }
 
-fn tell_unfinished(rt: &HostRuntime, name: &[u8])
-    requires { Tellable name.now }
-{
+fn tell_unfinished(rt: &HostRuntime, name: AreaName) {
     tell(
         &rt.stderr(),
         b"wickthrush: ",
-        name,
+        name.told.bytes,
         b" is as it was: reading lines or writing answers failed\n",
     );
 }
 
 // ---- print
 
-// The answer, whether the output took all that was handed to it, and how many bytes that were.
+// Why an area is not printed, or not all of it: it is a bad area; or the output did not take all of what was handed to it, so
+// many bytes, and why.
 #[derive(Clone, Copy)]
-struct PrintEnd {
-    answer: u32,
-    all: bool,
-    bytes: usize,
+enum PrintError {
+    BadArea,
+    Cut { bytes: usize, why: Error },
 }
 
-// What one more call wrote was handed to the output.
-fn handed_on(end: PrintEnd, w: Written, sent: Sent) -> PrintEnd
-    requires { (sent.bytes ≡ w.bytes) × (end.bytes ≤ most_rows * least_room) × (w.bytes ≤ least_room) }
-    ensures { result ≡ handed_on sent.all w.bytes end }
+// What one more call wrote was handed to the output, behind what was handed over before; how many bytes that is together.
+fn handed_on(sent: Sent, before: usize) -> Result<usize, PrintError>
+    requires { (sent.bytes ≤ least_room) × (before ≤ most_rows * least_room) }
+    ensures { result ≡ handed_on sent.taken (before + sent.bytes) }
 {
-    PrintEnd {
-        answer: end.answer,
-        all: sent.all(),
-        bytes: end.bytes + w.bytes as usize,
+    let bytes = before + sent.bytes();
+    match sent.taken() {
+        Ok(()) => Ok(bytes),
+        Err(why) => Err(PrintError::Cut { bytes, why }),
     }
 }
 
 // The O line, then row by row, each handed to the output at once, so that no line is cut where the output stops taking them;
-// and why it stopped.
-fn print_area<W: Write>(output: &mut W, area: &[u8], out: &mut [u8]) -> (PrintEnd, Error)
+// how many bytes that were.
+fn print_area<W: Write>(output: &mut W, area: &[u8], out: &mut [u8]) -> Result<usize, PrintError>
     requires { least_room ≤ length out.old }
-    ensures { PrintedOut area.now result.0 }
+    ensures { PrintedOut area.now result }
 {
-    let w = print_open(area, out);
-    let mut end = PrintEnd {
-        answer: w.answer,
-        all: false,
-        bytes: 0,
+    let Ok(n) = print_open(area, out) else {
+        return Err(PrintError::BadArea);
     };
-    if w.answer != 0 {
-        return (end, no_reason());
+    let mut bytes = handed_on(write_first(output, n as usize, out), 0)?;
+    for row in 0..MOST_ROWS {
+        let Ok(n) = print_row(area, row as u64, out) else {
+            return Ok(bytes);
+        };
+        bytes = handed_on(write_first(output, n as usize, out), bytes)?;
     }
-    let sent = write_first(output, w.bytes as usize, out);
-    let mut why = sent.why();
-    end = handed_on(end, w, sent);
-    let mut row: u64 = 0;
-    while end.all {
-        let w = print_row(area, row, out);
-        if w.answer != 0 {
-            return (end, why);
-        }
-        row += 1;
-        let sent = write_first(output, w.bytes as usize, out);
-        why = sent.why();
-        end = handed_on(end, w, sent);
-    }
-    (end, why)
+    Ok(bytes)
 }
 
 // What was loaded, printed.
-fn print_loaded(rt: &HostRuntime, name: &[u8], area: &[u8], out: &mut [u8])
-    requires { Named name.now × (least_room ≤ length out.old) }
+fn print_loaded(rt: &HostRuntime, name: AreaName, area: &[u8], out: &mut [u8])
+    requires { least_room ≤ length out.old }
 {
-    let (end, why) = print_area(&mut rt.stdout(), area, out);
-    if end.answer != 0 {
-        tell_bad_area(&rt.stderr(), name);
-        return;
-    }
-    if !end.all {
-        tell_refused(&rt.stderr(), b"standard output", why);
+    match print_area(&mut rt.stdout(), area, out) {
+        Ok(_) => {}
+        Err(PrintError::BadArea) => tell_bad_area(&rt.stderr(), name.told),
+        Err(PrintError::Cut { why, .. }) => {
+            let output = Told {
+                bytes: b"standard output",
+            };
+            tell_refused(&rt.stderr(), output, why);
+        }
     }
 }
 
-fn print_stored(rt: &HostRuntime, name: &[u8])
-    requires { Named name.now }
-{
+fn print_stored(rt: &HostRuntime, name: AreaName) {
     let mut area = [0u8; LOAD_BYTES];
     let mut out = io::large_buffer();
-    let loaded = load(rt, name, &mut area);
-    if loaded.missing() | loaded.failed() {
-        tell_refused(&rt.stderr(), name, loaded.why());
-        return;
+    if let Some(loaded) = load_or_tell(rt, &rt.stderr(), name.told, &mut area) {
+        print_loaded(rt, name, &area[..loaded.bytes()], &mut out);
     }
-    let n = loaded.bytes();
-    print_loaded(rt, name, &area[..n], &mut out);
 }
 
 // ---- feed
 
-// Whether lines may be answered on what was loaded: on a good area, and where there is no file, on zeros.
-fn may_start(loaded: Loaded, area: &[u8]) -> bool
-    requires { IsPrefixLen loaded.bytes area.now }
-    ensures { result ≡ (loaded.missing || good_bytes (take loaded.bytes area.now)) }
-{
-    let n = loaded.bytes();
-    loaded.missing() | area::check::check(&area[..n])
-}
-
-// Whether all lines are answered, and whether the area is then one to be stored.
+// What came of the lines: all are answered, and the area is then one to be stored, or not; or they are not all answered.
 #[derive(Clone, Copy)]
-struct Fed {
-    done: bool,
-    good: bool,
+enum Fed {
+    Good,
+    Bad,
+    Unfinished,
 }
 
 // The lines answered on the area. There is a new file to store it in by then, and no line or answer goes by that.
 fn feed_area<R: Read, W: Write>(
-    made: &Made,
+    _made: &Made,
     input: &mut R,
     output: &mut W,
     area: &mut [u8],
     piece: &mut [u8],
     out: &mut [u8],
 ) -> Fed
-    requires { (made.now.apart ≡ true) × Starts area.old × (1 ≤ length piece.old) × (most_text ≤ length out.old) }
+    requires { Starts area.old × (1 ≤ length piece.old) × (most_text ≤ length out.old) }
     ensures { FedAs area.old result area.new piece.new }
 {
     let ended = answer_input(input, output, area, piece, out);
-    let done = ended.flow.done;
-    Fed {
-        done,
-        good: done & area::check::check(area),
+    if ended.flow.stand != Stand::Done {
+        return Fed::Unfinished;
+    }
+    if area::check::check(area) {
+        Fed::Good
+    } else {
+        Fed::Bad
     }
 }
 
 // A good area stored.
-fn keep(rt: &HostRuntime, mut made: Made, new: &[u8], name: &[u8], area: &[u8])
-    requires { Ready made × Naming new.now name.now × T (good_bytes area.now) }
+fn keep(rt: &HostRuntime, mut made: Made, names: Names, area: &[u8])
+    requires { T (good_bytes area.now) }
 {
-    let stored = store(rt, &mut made, area, new, name);
-    if stored.renamed() {
-        return;
+    match store(rt, &mut made, area, names) {
+        Ok(()) => return,
+        Err(StoreError::Write(why)) => tell_refused(&rt.stderr(), names.new, why),
+        Err(StoreError::Rename(why)) => tell_refused(&rt.stderr(), names.area.told, why),
     }
-    if stored.written() {
-        tell_refused(&rt.stderr(), name, stored.why());
-    } else {
-        tell_refused(&rt.stderr(), new, stored.why());
-    }
-    remove(rt, &made, new);
+    remove(rt, &made, names.new.bytes);
 }
 
 // The area stored, or the new file taken away again.
-fn settle(rt: &HostRuntime, fed: Fed, made: Made, new: &[u8], name: &[u8], area: &[u8])
-    requires { Ready made × Naming new.now name.now × (fed.good ≡ true → T (good_bytes area.now)) }
+fn settle(rt: &HostRuntime, fed: Fed, made: Made, names: Names, area: &[u8])
+    requires { fed ≡ Fed.Good → T (good_bytes area.now) }
 {
-    if fed.good {
-        keep(rt, made, new, name, area);
-        return;
-    }
-    remove(rt, &made, new);
-    if fed.done {
-        tell_bad_area(&rt.stderr(), name);
-    } else {
-        tell_unfinished(rt, name);
+    match fed {
+        Fed::Good => keep(rt, made, names, area),
+        Fed::Bad => {
+            remove(rt, &made, names.new.bytes);
+            tell_bad_area(&rt.stderr(), names.area.told);
+        }
+        Fed::Unfinished => {
+            remove(rt, &made, names.new.bytes);
+            tell_unfinished(rt, names.area);
+        }
     }
 }
 
 // The lines answered, with a new file to store the area in.
-fn feed_by(rt: &HostRuntime, new: &[u8], name: &[u8], area: &mut [u8])
-    requires { Naming new.now name.now × Starts area.old }
+fn feed_by(rt: &HostRuntime, names: Names, area: &mut [u8])
+    requires { Starts area.old }
 {
-    let made = make(rt, new);
-    if !made.made() {
-        tell_refused(&rt.stderr(), new, made.why());
-        return;
-    }
-    if !made.apart() {
-        remove(rt, &made, new);
-        say(
-            &rt.stderr(),
-            b"wickthrush: standard input, output and error have to be open\n",
-        );
-        return;
-    }
+    let made = match make(rt, names.new.bytes) {
+        Ok(made) => made,
+        Err(MakeError::Refused(why)) => {
+            tell_refused(&rt.stderr(), names.new, why);
+            return;
+        }
+        Err(MakeError::StandardClosed(closed)) => {
+            remove(rt, &closed, names.new.bytes);
+            say(
+                &rt.stderr(),
+                b"wickthrush: standard input, output and error have to be open\n",
+            );
+            return;
+        }
+    };
     let mut piece = io::large_buffer();
     let mut out = io::large_buffer();
     let fed = feed_area(
@@ -263,40 +249,56 @@ fn feed_by(rt: &HostRuntime, new: &[u8], name: &[u8], area: &mut [u8])
         &mut piece,
         &mut out,
     );
-    settle(rt, fed, made, new, name, area);
+    settle(rt, fed, made, names, area);
 }
 
-// What was loaded, fed, where lines may be answered on it.
-fn feed_loaded(rt: &HostRuntime, name: &[u8], loaded: Loaded, area: &mut [u8])
-    requires { Named name.now × LoadedInto (replicate load_bytes 0) loaded area.old × (length area.old ≡ load_bytes) }
+// The lines answered on an area on which they may be.
+fn feed_area_of(rt: &HostRuntime, name: AreaName, area: &mut [u8])
+    requires { Starts area.old }
 {
-    if !may_start(loaded, area) {
-        tell_bad_area(&rt.stderr(), name);
-        return;
-    }
     let mut new = io::buffer();
-    let n = new_name(name, &mut new);
-    feed_by(rt, &new[..n], name, &mut area[..AREA_BYTES]);
+    let n = new_name(name.told.bytes, &mut new);
+    let new = Told { bytes: &new[..n] };
+    feed_by(rt, Names { area: name, new }, area);
 }
 
-fn feed_stored(rt: &HostRuntime, name: &[u8])
-    requires { Named name.now }
+// What was loaded, fed, where it is a good area.
+fn feed_loaded(rt: &HostRuntime, name: AreaName, loaded: Loaded, area: &mut [u8])
+    requires { Filled loaded area.old × (length area.old ≡ load_bytes) }
 {
-    let mut area = [0u8; LOAD_BYTES];
-    let loaded = load(rt, name, &mut area);
-    if loaded.failed() {
-        tell_refused(&rt.stderr(), name, loaded.why());
-        return;
+    if area::check::check(&area[..loaded.bytes()]) {
+        feed_area_of(rt, name, &mut area[..AREA_BYTES]);
+    } else {
+        tell_bad_area(&rt.stderr(), name.told);
     }
-    feed_loaded(rt, name, loaded, &mut area);
+}
+
+// Where there is no file of that name, lines are answered on zeros.
+fn feed_stored(rt: &HostRuntime, name: AreaName) {
+    let mut area = [0u8; LOAD_BYTES];
+    match load(rt, name.told.bytes, &mut area) {
+        Ok(loaded) => feed_loaded(rt, name, loaded, &mut area),
+        Err(LoadError::Missing(_)) => feed_area_of(rt, name, &mut area[..AREA_BYTES]),
+        Err(LoadError::Refused(why)) => tell_refused(&rt.stderr(), name.told, why),
+    }
 }
 
 // ---- the program
 
+// The name of an area, as it came.
+fn area_name<'a>(bytes: &'a [u8]) -> AreaName<'a>
+    requires { Named bytes.now }
+    ensures { result.told.bytes ≡ bytes.entry }
+{
+    AreaName {
+        told: Told { bytes },
+    }
+}
+
 fn serve(rt: &HostRuntime, count: usize, word: &[u8], name: &[u8]) {
     match asked_for(count, word, name) {
-        Asked::Print => print_stored(rt, name),
-        Asked::Feed => feed_stored(rt, name),
+        Asked::Print => print_stored(rt, area_name(name)),
+        Asked::Feed => feed_stored(rt, area_name(name)),
         Asked::BadName => say(
             &rt.stderr(),
             b"wickthrush: the name of an area has 1 to 4091 bytes\n",

@@ -1,15 +1,16 @@
 // Where the program meets the system beside `files`, which reads files and says messages, and `stream::outside`, which has the
 // lines and the output: where it writes files. No contract can say what is in a file, so these lines are to be believed: each
-// call is made once, on the name that is handed in, and its answer is kept as it is. Nothing else can make a `Made` or a `Stored`.
-ghost use Rattle.std.specs.Prelude.{◌≡◌, true, T, pos};
+// call is made once, on the name that is handed in, and its answer is kept as it is. Nothing else can make a `Made`, and nothing takes a
+// `StoreError`.
+ghost use Rattle.std.specs.Prelude.{◌≡◌, true, false, T, pos};
 ghost use Rattle.std.specs.Int.Signed.{le_z, lt_z};
 ghost use Rattle.area.specs.Layout.{good_bytes};
-ghost use Rattle.service.specs.Names.{new_name};
 
-use files::outside::{no_reason, path_of};
+use super::Names;
+use files::outside::path_of;
 use std::fs;
 use std::fs::{File, OpenOptions};
-use std::io::{Error, Result, Write};
+use std::io::{Error, Write};
 use std::os::fd::AsRawFd;
 
 // The descriptor of standard error, the last of the three that lines, answers and messages go by.
@@ -18,64 +19,51 @@ const LAST_STANDARD: i32 = 2;
 // The system's number for a call on no open file.
 const NO_FILE: i32 = 9;
 
-// What came of making the new file: it, while it is open, and its descriptor, whether there is one, and whether it is none of
-// the three that lines, answers and messages go by; where there is none, why. With one of those closed the new file would get
-// its number, and what is written there.
+// The new file, while it is open, and its descriptor, which is none of the three that lines, answers and messages go by. It is closed
+// before it is renamed, and `remove` takes the same `Made` after that, so the file is an Option.
 #[derive(Drop)]
 pub struct Made {
     file: Option<File>,
     fd: i32,
-    made: bool,
-    apart: bool,
-    why: Error,
+    ghost apart: { lt_z (pos 2) fd ≡ true },
 }
 
-impl Made {
-    pub fn made(&self) -> bool
-        ensures { result ≡ self.now.made }
-    {
-        self.made
-    }
+// A new file that got the number of standard input, output or error, as that one is closed. It stays open until that is told:
+// closed before, a standard error that it stands for would be gone for the message.
+#[derive(Drop)]
+pub struct Closed {
+    _file: File,
+    fd: i32,
+    ghost made: { le_z (pos 0) fd ≡ true },
+    ghost closed: { lt_z (pos 2) fd ≡ false },
+}
 
-    pub fn apart(&self) -> bool
-        ensures { result ≡ self.now.apart }
-    {
-        self.apart
-    }
-
-    pub fn why(&self) -> Error
-        ensures { result ≡ self.now.why }
-    {
-        self.why
-    }
+// Why there is no new file: the system refused; or standard input, output or error is closed, so that the new file got its
+// number, and what is read or written there.
+#[derive(Drop)]
+pub enum MakeError {
+    Refused(Error),
+    StandardClosed(Closed),
 }
 
 // A new file, where none of that name is.
-pub fn make(rt: &HostRuntime, new: &[u8]) -> Made
-    ensures { (result.made ≡ le_z (pos 0) result.fd) × (result.apart ≡ lt_z (pos 2) result.fd) }
-{
-    match create(rt, new) {
-        Ok(file) => {
-            let fd = file.as_raw_fd();
-            Made {
-                file: Some(file),
-                fd,
-                made: 0 <= fd,
-                apart: LAST_STANDARD < fd,
-                why: no_reason(),
-            }
-        }
-        Err(why) => Made {
-            file: None,
-            fd: -1,
-            made: false,
-            apart: false,
-            why,
-        },
+pub fn make(rt: &HostRuntime, new: &[u8]) -> Result<Made, MakeError> {
+    let file = create(rt, new).map_err(MakeError::Refused)?;
+    let fd = file.as_raw_fd();
+    // No system gives a number below 0, so there is no file then.
+    if fd < 0 {
+        return Err(MakeError::Refused(Error::from_raw_os_error(NO_FILE)));
     }
+    if fd <= LAST_STANDARD {
+        return Err(MakeError::StandardClosed(Closed { _file: file, fd }));
+    }
+    Ok(Made {
+        file: Some(file),
+        fd,
+    })
 }
 
-fn create(rt: &HostRuntime, new: &[u8]) -> Result<File> {
+fn create(rt: &HostRuntime, new: &[u8]) -> std::io::Result<File> {
     let path = path_of(new)?;
     OpenOptions::new()
         .write(true)
@@ -83,47 +71,30 @@ fn create(rt: &HostRuntime, new: &[u8]) -> Result<File> {
         .open(rt, path)
 }
 
+// What making gives where there is a new file.
+pub trait NewFile {}
+
+impl NewFile for Made {}
+
+impl NewFile for Closed {}
+
 // The new file is taken away again.
-pub fn remove(rt: &HostRuntime, made: &Made, new: &[u8])
-    requires { made.now.made ≡ true }
-{
+pub fn remove<F: NewFile>(rt: &HostRuntime, _file: &F, new: &[u8]) {
     if let Ok(path) = path_of(new) {
         let _ = fs::remove_file(rt, path);
     }
 }
 
-// Whether the new file has all of the area, and whether it has the old one's place; where it has not, why.
+// Why an area is not stored: the new file does not have all of it, or not the old one's place.
 #[derive(Clone, Copy)]
-pub struct Stored {
-    written: bool,
-    renamed: bool,
-    why: Error,
-}
-
-impl Stored {
-    pub fn written(self) -> bool
-        ensures { result ≡ self.written }
-    {
-        self.written
-    }
-
-    pub fn renamed(self) -> bool
-        ensures { result ≡ self.renamed }
-    {
-        self.renamed
-    }
-
-    pub fn why(self) -> Error
-        ensures { result ≡ self.why }
-    {
-        self.why
-    }
+pub enum StoreError {
+    Write(Error),
+    Rename(Error),
 }
 
 // All of a good area in the new file, and on the disk; the file is then closed.
-fn write_new(made: &mut Made, area: &[u8]) -> Result<()>
+fn write_new(made: &mut Made, area: &[u8]) -> std::io::Result<()>
     requires { T (good_bytes area.now) }
-    ensures { made.new.made ≡ made.old.made }
 {
     let Some(mut file) = made.file.take() else {
         return Err(Error::from_raw_os_error(NO_FILE));
@@ -132,33 +103,14 @@ fn write_new(made: &mut Made, area: &[u8]) -> Result<()>
     file.sync_all()
 }
 
-fn rename(rt: &HostRuntime, new: &[u8], name: &[u8]) -> Result<()> {
+fn rename(rt: &HostRuntime, new: &[u8], name: &[u8]) -> std::io::Result<()> {
     fs::rename(rt, path_of(new)?, path_of(name)?)
 }
 
 // A good area in the place of the old one: written to the new file first, and then that renamed.
-pub fn store(rt: &HostRuntime, made: &mut Made, area: &[u8], new: &[u8], name: &[u8]) -> Stored
-    requires { T (good_bytes area.now) × (made.old.apart ≡ true) × (new.now ≡ new_name name.now) }
-    ensures order { result.renamed ≡ true → result.written ≡ true }
-    ensures made { made.new.made ≡ made.old.made }
+pub fn store(rt: &HostRuntime, made: &mut Made, area: &[u8], names: Names) -> Result<(), StoreError>
+    requires { T (good_bytes area.now) }
 {
-    if let Err(why) = write_new(made, area) {
-        return Stored {
-            written: false,
-            renamed: false,
-            why,
-        };
-    }
-    match rename(rt, new, name) {
-        Ok(()) => Stored {
-            written: true,
-            renamed: true,
-            why: no_reason(),
-        },
-        Err(why) => Stored {
-            written: true,
-            renamed: false,
-            why,
-        },
-    }
+    write_new(made, area).map_err(StoreError::Write)?;
+    rename(rt, names.new.bytes, names.area.told.bytes).map_err(StoreError::Rename)
 }

@@ -8,14 +8,13 @@ use native.Mathlib.Decide.{dec_lt}
 use native.Mathlib.Omega.{arith}
 use lib.Dec.{T, not_T, eqb}
 use lib.ListN.{length, length-append}
-use Rattle.roles.specs.Sets.{most_roles, has, In, part_of}
+use Rattle.roles.specs.Sets.{most_roles, has, In, part_of, roles_from, roles_of}
 use Rattle.roles.proofs.Member.{in-empty, not_part-law, below-law}
 use Rattle.roles.proofs.Laws.{shares_at}
 use Rattle.meaning.specs.Lists.{Mem, keep}
 use Rattle.meaning.specs.Rows.{Row, Good, most_opens}
 use Rattle.text.specs.Ascii.{space}
 use Rattle.text.specs.Number.{number_text}
-use Rattle.text.specs.Set.{roles_from, roles_of}
 use Rattle.text.proofs.Shape.{length-number}
 use Rattle.names.specs.Names.{most_name, Tables, name_of}
 use Rattle.names.proofs.TableLaws.{name-short}

@@ -1,8 +1,7 @@
 -- The sheet's text part by part, as the code writes it. Assumes nothing.
-use mathlib.Core.Path.{◌≡◌, refl, sym, ap, ◌∙◌, subst}
+use mathlib.Core.Path.{◌≡◌, refl, sym, ap, ◌∙◌}
 use mathlib.Core.Bool.{Bool, true, false, not, cond}
 use mathlib.Core.List.{List, [], ◌∷◌, ◌++◌, append_assoc}
-use mathlib.Core.Logic.{◌≢◌}
 use Prim.Native.Nat.{ℕ, zero, suc, ◌+◌, ◌/◌, ◌%◌, ◌^◌, ◌≤◌, ◌<◌}
 use native.Mathlib.Nat.{div-div-eq-div-mul, div-eq_of_lt, div-one, pow-suc, mod-lt, zero-add, suc-add, add-suc}
 use native.Mathlib.Numerals.{add-one}
@@ -10,17 +9,15 @@ use native.Mathlib.Omega.{arith}
 use borrow.Author.Tests.{eq-eqb, ne_eqb}
 use lib.Count.{ones, ones_step}
 use lib.Dec.{eqb}
-use lib.ListN.{length, drop, get_or, drop_of_length-le}
+use lib.ListN.{length, length-append, drop, get_or, drop_of_length-le}
 use lib.Seq.{drop-cons}
-use Rattle.roles.specs.Sets.{most_roles, has}
+use Rattle.roles.specs.Sets.{most_roles, has, roles_from, roles_of}
 use Rattle.meaning.specs.Lists.{keep}
 use Rattle.meaning.specs.Rows.{Row}
 use Rattle.text.specs.Ascii.{space, lf}
 use Rattle.text.specs.Number.{number_text}
-use Rattle.text.specs.Set.{roles_from, roles_of}
-use Rattle.text.proofs.WriteLaws.{rest_roles, roles-has, roles-end}
 use Rattle.names.specs.Names.{name_of}
-use Rattle.sheet.specs.Text.{denied_word, proved_word, open_word, verdict_word, deny_word, allow_word, undecided_word, alone, larger, roles_of_all, denied_roles, proved_roles, open_sets, name_text, names_text, parting, parted_text, answer_word, line, sheet_lines}
+use Rattle.sheet.specs.Text.{denied_word, proved_word, open_word, verdict_word, alone, larger, roles_of_all, denied_roles, proved_roles, open_sets, name_text, names_text, parting, parted_text, answer_word, deny_word, line, sheet_lines}
 
 -- ---- a role
 
@@ -45,12 +42,12 @@ module _ (f : ℕ → List ℕ) where
   unfolding names_text
   names-none = refl
 
-  pub names-has : (r s : ℕ) → r < most_roles → has s r ≡ true → names_text f (rest_roles r s) ≡ (space ∷ f r) ++ names_text f (rest_roles (r + 1) s)
+  pub names-next : {r : ℕ} {l m : List ℕ} → l ≡ r ∷ m → names_text f l ≡ (space ∷ f r) ++ names_text f m
   unfolding names_text
-  names-has r s h e = ap (names_text f) (roles-has r s h e)
+  names-next e = ap (names_text f) e
 
-  pub names-end : (r s : ℕ) → most_roles ≤ r → names_text f (rest_roles r s) ≡ []
-  names-end r s h = ap (names_text f) (roles-end r s h) ∙ names-none
+  pub names-end : {l : List ℕ} → l ≡ [] → names_text f l ≡ []
+  names-end e = ap (names_text f) e ∙ names-none
 
 -- ---- a set of one role
 
@@ -129,30 +126,13 @@ module _ (f : ℕ → List ℕ) (l : List ℕ) (i : ℕ) where
     unfolding parted_text
     open-end h = rw (keep-end larger l i h) refl
 
--- ---- ` ;` before a set, or nothing
-
-pub parted : (later : Bool) (t : List ℕ) → later ≡ true → parting later ++ t ≡ parting true ++ t
-parted later t e = rw e refl
-
-pub unparted : (later : Bool) (t : List ℕ) → later ≡ false → parting later ++ t ≡ t
-unparted later t e = rw e refl
-
 -- ---- the whole sheet, one text behind the other
 
 abbrev pub answer_text : ℕ → List ℕ
 answer_text v = (space ∷ answer_word v) ++ lf ∷ []
 
-pub room-is : (at : ℕ) {t u : List ℕ} {n : ℕ} → t ≡ u → at + length t ≤ n → at + length u ≤ n
-room-is at {t} {u} {n} e h = subst (λ (x : List ℕ). at + length x ≤ n) e h
-
 pub answer-deny : (v : ℕ) → v ≡ 10 → answer_text v ≡ (space ∷ deny_word) ++ lf ∷ []
 answer-deny v e = rw e refl
-
-pub answer-allow : (v : ℕ) → v ≡ 11 → answer_text v ≡ (space ∷ allow_word) ++ lf ∷ []
-answer-allow v e = rw e refl
-
-pub answer-undecided : (v : ℕ) → v ≢ 10 → v ≢ 11 → answer_text v ≡ (space ∷ undecided_word) ++ lf ∷ []
-answer-undecided v a b = rw (ne_eqb v 10 a, ne_eqb v 11 b) refl
 
 -- the LF of a line stands before what follows it
 line-then : (word t u : List ℕ) → line word t ++ u ≡ word ++ (t ++ (lf ∷ u))
@@ -198,3 +178,7 @@ module _ (f : ℕ → List ℕ) (w : Row) (v : ℕ) where
       ∙ ap (λ (x : List ℕ). denied_word ++ (names_text f (denied_roles w) ++ (lf ∷ x)))
       (line-then proved_word (names_text f (proved_roles w)) (line₃ ++ line₄)
       ∙ ap (λ (x : List ℕ). proved_word ++ (names_text f (proved_roles w) ++ (lf ∷ x))) (line-then open_word (parted_text f false (open_sets w)) line₄))
+
+  -- the bytes of its parts, as room is found for each
+  pub length-parts : length (sheet_lines f w v) ≡ 6 + (length (names_text f (denied_roles w)) + (7 + (length (names_text f (proved_roles w)) + (5 + (length (parted_text f false (open_sets w)) + (8 + length (answer_text v)))))))
+  length-parts = rw sheet-parts (simp length-append (omega arith))

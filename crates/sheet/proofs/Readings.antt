@@ -2,13 +2,12 @@
 use mathlib.Core.Path.{◌≡◌, refl}
 use native.Mathlib.Omega.{arith}
 use lib.ListN.{length}
-use Rattle.roles.specs.Sets.{has, single, all_below, common, without, shares, part_of, lowest, outside}
+use Rattle.roles.specs.Sets.{has, single, all_below, common, without, shares, part_of, lowest, outside, roles_from, roles_of}
 use Rattle.meaning.specs.Lists.{any, keep}
 use Rattle.meaning.specs.Rows.{Good, has_part, decide}
 use Rattle.opens.specs.Opens.{opens_good}
 use Rattle.opens.proofs.OpenRules.{opens_good-law}
 use Rattle.text.specs.Number.{number_text, digits}
-use Rattle.text.specs.Set.{roles_from, roles_of}
 use Rattle.names.specs.Names.{start_of, length_of, good_pair, good_pairs, good_table, Tables, part_at, name_of}
 use Rattle.sheet.specs.Text.{alone, roles_of_all, name_text, names_text, parted_text, sheet_lines, sheet_text}
 use Rattle.sheet.specs.Readings.{long_pairs, long_names, longest_row, Readings}

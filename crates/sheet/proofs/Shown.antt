@@ -8,13 +8,12 @@ use native.Mathlib.Decide.{dec_lt}
 use native.Mathlib.Omega.{arith}
 use lib.Dec.{T, eqb, eqb→eq}
 use lib.ListN.{length}
-use Rattle.roles.specs.Sets.{most_roles, has, In, single, Below}
+use Rattle.roles.specs.Sets.{most_roles, has, In, single, Below, roles_from, roles_of}
 use Rattle.roles.proofs.Member.{in-single, set-ext, below-law}
 use Rattle.roles.proofs.Laws.{below-single}
 use Rattle.meaning.specs.Lists.{Mem, keep}
 use Rattle.meaning.proofs.ListLaws.{keep-law, mem-append}
-use Rattle.text.specs.Set.{roles_from, roles_of}
-use Rattle.text.proofs.RoleLists.{roles_of-single}
+use Rattle.roles.proofs.RoleLists.{roles_of-single}
 use Rattle.sheet.specs.Text.{alone, roles_of_all}
 
 -- ---- the roles of a set

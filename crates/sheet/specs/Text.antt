@@ -1,6 +1,7 @@
 -- The sheet for one permission, as text: four lines, each begun by a word, with a space before each name and word.
 --     denied_word, ..             the words, as bytes
 --     name_text works standard r  role r as it is shown: its name, or where no table names it, its number
+--     shown_by n r              the same by the tables that the names n are of
 --     alone s, larger s           s has one role; or not: of open sets, none of which is empty, those of more roles
 --     denied_roles w              the denied roles of the row w, ascending
 --     proved_roles w              those that are an open set alone, in the order of the open sets
@@ -17,8 +18,9 @@ use Rattle.meaning.specs.Lists.{keep}
 use Rattle.meaning.specs.Rows.{Row, decide}
 use Rattle.text.specs.Ascii.{semicolon, space, lf}
 use Rattle.text.specs.Number.{number_text}
-use Rattle.text.specs.Set.{roles_of}
+use Rattle.roles.specs.Sets.{roles_of}
 use Rattle.names.specs.Names.{name_of}
+use Rattle.names.specs.declared.Names.{Names}
 
 abbrev pub denied_word : List ℕ
 denied_word = 100 ∷ 101 ∷ 110 ∷ 105 ∷ 101 ∷ 100 ∷ []
@@ -66,6 +68,9 @@ open_sets w = keep larger w.opens
 
 unfoldable pub name_text : List ℕ → List ℕ → ℕ → List ℕ
 name_text works standard r = cond (eqb (length (name_of works standard r)) 0) (number_text r) (name_of works standard r)
+
+abbrev pub shown_by : Names → ℕ → List ℕ
+shown_by n = name_text n.works.now n.standard.now
 
 unfoldable pub names_text : (ℕ → List ℕ) → List ℕ → List ℕ
 names_text f [] = []

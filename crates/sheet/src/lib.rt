@@ -3,25 +3,40 @@
 
 mod write;
 
+ghost use Rattle.std.specs.Prelude.{◌≡◌, ◌↔◌, cond, eqb, IsTrue, Err};
+ghost use Rattle.calls.specs.declared.Refusal.TheVariants.{BadArea};
+ghost use Rattle.calls.specs.Answers.{refusal_number};
 ghost use Rattle.written.specs.Print.{Prints};
+ghost use Rattle.written.specs.Result.{number_of, written_of};
 ghost use Rattle.sheet.specs.Sheet.{sheet_of};
 
-use cache::look;
-use calls::number;
-use names::table_good;
+use cache::{Looked, look};
+use names::Names;
+use text::Page;
 use write::write_sheet;
-use written::{BAD_AREA, SHORT_BUFFER, Written, refused, wrote};
+use written::Refusal;
 
 // A buffer of so many bytes is asked for; no sheet is longer.
 const SHEET_BYTES: usize = 36864;
 
-const NO_PERMISSION: u32 = 3;
+// The one refusal of a look that comes before that of the tables.
+fn is_of_bad_area(looked: &Result<Looked, calls::Refusal>) -> bool
+    ensures { IsTrue result ↔ (looked.now ≡ Err BadArea) }
+{
+    matches!(looked, Err(calls::Refusal::BadArea))
+}
 
-const UNKNOWN_ROLE: u32 = 4;
+// Those that come behind it: no permission, and else an unknown role.
+fn refused_behind(refusal: calls::Refusal) -> Refusal
+    ensures { number_of result ≡ cond (eqb (refusal_number refusal) 3) 3 4 }
+{
+    match refusal {
+        calls::Refusal::NoPermission => Refusal::NoPermission,
+        _ => Refusal::UnknownRole,
+    }
+}
 
-const BAD_NAME_TABLE: u32 = 17;
-
-// The sheet of a permission for a session; refusals in the order 1, 17, 3, 4, 16.
+// The sheet of a permission for a session: how many bytes it has. Refusals in the order 1, 17, 3, 4, 16.
 pub fn sheet<'a>(
     area: &[u8],
     works: &'a [u8],
@@ -29,28 +44,24 @@ pub fn sheet<'a>(
     p: u32,
     s: u64,
     out: &mut [u8],
-) -> Written
-    ensures { Prints (sheet_of area.now works.now standard.now p s out.old) result out.new }
+) -> Result<u32, Refusal>
+    ensures { Prints (sheet_of area.now works.now standard.now p s out.old) (written_of result) out.new }
 {
     let looked = look(area, p, s);
-    let decided = looked.decided;
-    let said = decided.answer;
-    let answer = number(said);
-    if answer == BAD_AREA {
-        return refused(BAD_AREA);
+    if is_of_bad_area(&looked) {
+        return Err(Refusal::BadArea);
     }
-    if !(table_good(works) & table_good(standard)) {
-        return refused(BAD_NAME_TABLE);
-    }
-    if answer == NO_PERMISSION {
-        return refused(NO_PERMISSION);
-    }
-    if answer == UNKNOWN_ROLE {
-        return refused(UNKNOWN_ROLE);
-    }
+    let Some(names) = Names::new(works, standard) else {
+        return Err(Refusal::BadNameTable);
+    };
+    let looked = match looked {
+        Ok(looked) => looked,
+        Err(refusal) => return Err(refused_behind(refusal)),
+    };
     if out.len() < SHEET_BYTES {
-        return refused(SHORT_BUFFER);
+        return Err(Refusal::ShortBuffer);
     }
-    let row = looked.row;
-    wrote(write_sheet(out, works, standard, row, answer))
+    let mut page = Page::new(out, 0);
+    write_sheet(&mut page, names, looked.row, looked.verdict);
+    Ok(page.at as u32)
 }

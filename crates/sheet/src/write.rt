@@ -1,51 +1,41 @@
-// The sheet as text, into a lent buffer.
+// The sheet as text, on a page.
 ghost use Rattle.std.specs.Prelude.{◌≡◌, false, [], ◌∷◌, ◌++◌, ◌+◌, ◌≤◌, ◌<◌, length};
-ghost use Rattle.roles.specs.Sets.{most_roles};
+ghost use Rattle.roles.specs.Sets.{most_roles, roles_of};
 ghost use Rattle.meaning.specs.Lists.{keep};
 ghost use Rattle.meaning.specs.Rows.{most_opens};
 ghost use Rattle.rows.specs.Stored.{Tidy, row_of};
 ghost use Rattle.text.specs.Ascii.{space, lf};
-ghost use Rattle.text.specs.Set.{roles_of};
-ghost use Rattle.text.specs.Write.{Wrote};
-ghost use Rattle.names.specs.Names.{Tables};
-ghost use Rattle.sheet.specs.Text.{alone, larger, roles_of_all, name_text, names_text, parting, parted_text, answer_word, sheet_lines};
+ghost use Rattle.text.specs.Page.{Room, Adds};
+ghost use Rattle.calls.specs.Answers.{verdict_number};
+ghost use Rattle.sheet.specs.Text.{alone, larger, roles_of_all, shown_by, names_text, parting, parted_text, answer_word, sheet_lines};
 
-use names::name_of;
-use roles::{LAST_ROLE, RoleSet};
-use rows::Row;
-use text::{write_bytes, write_number_field};
+use names::Names;
+use roles::RoleSet;
+use rows::{Row, Verdict};
+use text::Page;
 
 // A role with a space before it: its name, or its number where no table names it.
-fn write_role<'a>(out: &mut [u8], at: usize, works: &'a [u8], standard: &'a [u8], r: u64) -> usize
-    requires { Tables works.now standard.now × (r < most_roles) × (at + length (space ∷ name_text works.now standard.now r) ≤ length out.old) }
-    ensures { Wrote out.old at (space ∷ name_text works.now standard.now r) out.new result }
+fn write_role(page: &mut Page<'_>, names: Names, r: u64)
+    requires { (r < most_roles) × Room page.old (space ∷ shown_by names r) }
+    ensures { Adds page.old (space ∷ shown_by names.entry r) page.new }
 {
-    let name = name_of(works, standard, r);
+    let name = names.of(r);
     if name.len() == 0 {
-        return write_number_field(out, at, r);
+        page.field(r);
+        return;
     }
-    out[at] = b' ';
-    write_bytes(out, at + 1, name)
+    page.push(b' ');
+    page.push_bytes(name);
 }
 
 // The roles of a set.
-fn write_set<'a>(
-    out: &mut [u8],
-    at: usize,
-    works: &'a [u8],
-    standard: &'a [u8],
-    s: RoleSet,
-) -> usize
-    requires { Tables works.now standard.now × (at + length (names_text (name_text works.now standard.now) (roles_of s.bits)) ≤ length out.old) }
-    ensures { Wrote out.old at (names_text (name_text works.now standard.now) (roles_of s.bits)) out.new result }
+fn write_set(page: &mut Page<'_>, names: Names, s: RoleSet)
+    requires { Room page.old (names_text (shown_by names) (roles_of s.bits)) }
+    ensures { Adds page.old (names_text (shown_by names.entry) (roles_of s.bits)) page.new }
 {
-    let mut place = at;
-    let mut r = s.outside(RoleSet::EMPTY);
-    while r <= LAST_ROLE {
-        place = write_role(out, place, works, standard, r);
-        r = s.outside(RoleSet::all_below(r + 1));
+    for role in s.roles() {
+        write_role(page, names, role);
     }
-    place
 }
 
 // Whether a set has one role.
@@ -55,100 +45,70 @@ fn is_alone(s: RoleSet) -> bool
     u64::count_ones(s.bits) == 1
 }
 
-// The open sets of one role, one behind the other.
-fn write_proved<'a>(
-    out: &mut [u8],
-    at: usize,
-    works: &'a [u8],
-    standard: &'a [u8],
-    sets: &[u64],
-) -> usize
-    requires { Tables works.now standard.now × (at + length (names_text (name_text works.now standard.now) (roles_of_all (keep alone sets.now))) ≤ length out.old) }
-    ensures { Wrote out.old at (names_text (name_text works.now standard.now) (roles_of_all (keep alone sets.now))) out.new result }
+// The open sets of one role, one behind the other. `write_open` goes over them too, but parts what it writes: as one function of
+// two closures they would be no plainer.
+fn write_proved(page: &mut Page<'_>, names: Names, sets: &[u64])
+    requires { Room page.old (names_text (shown_by names) (roles_of_all (keep alone sets.now))) }
+    ensures { Adds page.old (names_text (shown_by names.entry) (roles_of_all (keep alone sets.now))) page.new }
 {
-    let mut place = at;
-    let mut i = 0;
-    while i < sets.len() {
-        let s = RoleSet { bits: sets[i] };
-        i += 1;
+    for bits in sets {
+        let s = RoleSet { bits: *bits };
         if is_alone(s) {
-            place = write_set(out, place, works, standard, s);
+            write_set(page, names, s);
         }
     }
-    place
 }
 
 // A set, behind ` ;` where others stand before it.
-fn write_parted<'a>(
-    out: &mut [u8],
-    at: usize,
-    works: &'a [u8],
-    standard: &'a [u8],
-    s: RoleSet,
-    later: bool,
-) -> usize
-    requires { Tables works.now standard.now × (at + length (parting later ++ names_text (name_text works.now standard.now) (roles_of s.bits)) ≤ length out.old) }
-    ensures { Wrote out.old at (parting later ++ names_text (name_text works.now standard.now) (roles_of s.bits)) out.new result }
+fn write_parted(page: &mut Page<'_>, names: Names, s: RoleSet, later: bool)
+    requires { Room page.old (parting later ++ names_text (shown_by names) (roles_of s.bits)) }
+    ensures { Adds page.old (parting later ++ names_text (shown_by names.entry) (roles_of s.bits)) page.new }
 {
     if later {
-        let behind = write_bytes(out, at, b" ;");
-        return write_set(out, behind, works, standard, s);
+        page.push_bytes(b" ;");
     }
-    write_set(out, at, works, standard, s)
+    write_set(page, names, s);
 }
 
 // The larger open sets, ` ;` between them.
-fn write_open<'a>(
-    out: &mut [u8],
-    at: usize,
-    works: &'a [u8],
-    standard: &'a [u8],
-    sets: &[u64],
-) -> usize
-    requires { Tables works.now standard.now × (at + length (parted_text (name_text works.now standard.now) false (keep larger sets.now)) ≤ length out.old) }
-    ensures { Wrote out.old at (parted_text (name_text works.now standard.now) false (keep larger sets.now)) out.new result }
+fn write_open(page: &mut Page<'_>, names: Names, sets: &[u64])
+    requires { Room page.old (parted_text (shown_by names) false (keep larger sets.now)) }
+    ensures { Adds page.old (parted_text (shown_by names.entry) false (keep larger sets.now)) page.new }
 {
-    let mut place = at;
     let mut later = false;
-    let mut i = 0;
-    while i < sets.len() {
-        let s = RoleSet { bits: sets[i] };
-        i += 1;
+    for bits in sets {
+        let s = RoleSet { bits: *bits };
         if !is_alone(s) {
-            place = write_parted(out, place, works, standard, s, later);
+            write_parted(page, names, s, later);
             later = true;
         }
     }
-    place
 }
 
-// The word of an answer to a session, with a space before it, and the end of the sheet.
-fn write_answer(out: &mut [u8], at: usize, v: u32) -> usize
-    requires { at + length ((space ∷ answer_word v) ++ lf ∷ []) ≤ length out.old }
-    ensures { Wrote out.old at ((space ∷ answer_word v) ++ lf ∷ []) out.new result }
+// The word of a verdict on a session, with a space before it, and the end of the sheet.
+fn write_answer(page: &mut Page<'_>, verdict: Verdict)
+    requires { Room page.old ((space ∷ answer_word (verdict_number verdict)) ++ lf ∷ []) }
+    ensures { Adds page.old ((space ∷ answer_word (verdict_number verdict)) ++ lf ∷ []) page.new }
 {
-    match v {
-        10 => write_bytes(out, at, b" deny\n"),
-        11 => write_bytes(out, at, b" allow\n"),
-        _ => write_bytes(out, at, b" undecided\n"),
+    match verdict {
+        Verdict::Deny => page.push_bytes(b" deny\n"),
+        Verdict::Allow => page.push_bytes(b" allow\n"),
+        Verdict::Undecided(_) => page.push_bytes(b" undecided\n"),
     }
 }
 
-// The sheet of a row and an answer; the LF of a line comes with the word of the next.
-pub fn write_sheet<'a>(out: &mut [u8], works: &'a [u8], standard: &'a [u8], w: Row, v: u32) -> usize
-    requires { Tables works.now standard.now × Tidy most_opens w.opens × (length (sheet_lines (name_text works.now standard.now) (row_of w) v) ≤ length out.old) }
-    ensures { Wrote out.old 0 (sheet_lines (name_text works.now standard.now) (row_of w) v) out.new result }
+// The sheet of a row and a verdict; the LF of a line comes with the word of the next.
+pub fn write_sheet(page: &mut Page<'_>, names: Names, w: Row, verdict: Verdict)
+    requires { Tidy most_opens w.opens × Room page.old (sheet_lines (shown_by names) (row_of w) (verdict_number verdict)) }
+    ensures { Adds page.old (sheet_lines (shown_by names.entry) (row_of w) (verdict_number verdict)) page.new }
 {
-    let denied = w.denied;
-    let opens = w.opens;
-    let sets = opens.sets;
-    let n = opens.count;
-    let a = write_bytes(out, 0, b"denied");
-    let b = write_set(out, a, works, standard, denied);
-    let c = write_bytes(out, b, b"\nproved");
-    let d = write_proved(out, c, works, standard, &sets[..n]);
-    let e = write_bytes(out, d, b"\nopen");
-    let f = write_open(out, e, works, standard, &sets[..n]);
-    let g = write_bytes(out, f, b"\nverdict");
-    write_answer(out, g, v)
+    let sets = w.opens.held();
+    page.push_bytes(b"denied");
+    write_set(page, names, w.denied);
+    page.push_bytes(b"\nproved");
+    write_proved(page, names, sets);
+    page.push_bytes(b"\nopen");
+    write_open(page, names, sets);
+    page.push_bytes(b"\nverdict");
+    write_answer(page, verdict);
 }

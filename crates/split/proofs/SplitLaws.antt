@@ -5,12 +5,10 @@ use mathlib.Core.List.{List, [], ◌∷◌, ◌++◌, append-nil, append_assoc}
 use mathlib.Core.Logic.{by_cases}
 use Prim.Native.Nat.{ℕ, zero, suc, ◌+◌, ◌≤◌, ◌<◌}
 use native.Mathlib.Decide.{dec_lt, dec_le}
-use native.Mathlib.Numerals.{add-one}
 use native.Mathlib.Omega.{arith}
 use borrow.Author.Tests.{ne_eqb, lt-ltb, le-ltb, le-leb, lt-leb}
 use lib.Dec.{eqb, eqb-suc-zero}
-use lib.ListN.{length, take, drop, get_or, set, length-append}
-use lib.Seq.{take-suc, take-suc-set}
+use lib.ListN.{length, take, drop, length-append}
 use Rattle.text.specs.Ascii.{lf, Lacks}
 use Rattle.requests.specs.Request.{most_bytes}
 use Rattle.text.specs.Lines.{before_lf}
@@ -63,14 +61,6 @@ all-over l [] h k = absurd (omega arith)
 all-over l (b ∷ bs) h k = by_cases (dec_lt (length l) most_bytes)
     (λ r. rw (lt-ltb (length l) most_bytes r) (all-over (l ++ b ∷ []) bs (omega (arith, length-append l (b ∷ []))) (omega (arith, length-append l (b ∷ [])))))
     (λ r. rw (le-ltb (length l) most_bytes (omega arith)) (all-long bs))
-
--- one byte more in its place
-pub then_one : (l done piece : List ℕ) (at i : ℕ) → at + i < length l → i < length piece → take (at + i) l ≡ done ++ take i piece
-    → take (at + (i + 1)) (set l (at + i) (get_or piece i 0)) ≡ done ++ take (i + 1) piece
-then_one l done piece at i h k e =
-    let next : take (i + 1) piece ≡ take i piece ++ get_or piece i 0 ∷ [] = rw add-one (take-suc piece i 0 k) in
-    let place : at + (i + 1) ≡ suc (at + i) = omega arith in
-    rw (place, next) (take-suc-set l (at + i) (get_or piece i 0) h ∙ ap (λ (x : List ℕ). x ++ get_or piece i 0 ∷ []) e ∙ append_assoc done (take i piece) (get_or piece i 0 ∷ []))
 
 -- ---- up to the first LF
 

@@ -7,7 +7,8 @@ ghost use Rattle.split.specs.Split.{none, is_none, held_all, said, held_in};
 use requests::{MOST_BYTES, Request, read_request};
 pub use text::line_end;
 
-// The line so far: the first `len` of `bytes`. A `len` above MOST_BYTES says that it is too long.
+// The line so far: the first `len` of `bytes`. A `len` above MOST_BYTES says that it is too long: any `len` can stand here, and no
+// Option beside it would say what one above MOST_BYTES means.
 #[derive(Clone, Copy)]
 pub struct Splitter {
     pub bytes: [u8; MOST_BYTES],
@@ -46,27 +47,19 @@ impl Splitter {
                 len: MOST_BYTES + 1,
             };
         }
-        let mut i: usize = 0;
-        while i < piece.len() {
-            bytes[at + i] = piece[i];
-            i += 1;
-        }
-        Splitter {
-            bytes,
-            len: at + piece.len(),
-        }
+        let len = at + piece.len();
+        bytes[at..len].copy_from_slice(piece);
+        Splitter { bytes, len }
     }
 
     // The request that the line says, at its end.
     pub fn said(self) -> Request
         ensures { result ≡ said (held_in self) }
     {
-        let n = self.len;
-        if MOST_BYTES < n {
+        let Some(line) = self.bytes.get(..self.len) else {
             return Request::Unreadable;
-        }
-        let bytes = self.bytes;
-        read_request(&bytes[..n])
+        };
+        read_request(line)
     }
 }
 

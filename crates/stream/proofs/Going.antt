@@ -1,10 +1,9 @@
 -- Each turn of the code is a move, or the last. Assumes nothing.
 use mathlib.Core.Path.{◌≡◌, refl, ap, ◌∙◌, subst, subst⁻¹}
-use mathlib.Core.Bool.{Bool, true, false, true≢false, false≢true}
+use mathlib.Core.Bool.{Bool, true, false}
 use mathlib.Core.List.{List, [], ◌∷◌, ◌++◌}
 use Prim.Native.Nat.{ℕ, zero, suc, ◌+◌, ◌-◌, ◌≤◌}
 use native.Mathlib.Omega.{arith}
-use lib.IntN.{ℤ, pos, negsuc}
 use lib.ListN.{length, take, drop, set, length-set, length-take}
 use Rattle.words.proofs.Runs.{drop-run}
 use Rattle.text.specs.Ascii.{lf}
@@ -14,8 +13,12 @@ use Rattle.lines.specs.Run.{Place, place_of}
 use Rattle.lines.specs.Program.{Starts, idle}
 use Rattle.lines.specs.declared.Run.{Run}
 use Rattle.lines.proofs.Program.{idle-read}
+use Rattle.std.proofs.Common.{Ok, Err}
+use Rattle.std.specs.declared.result.Result.{Result}
+use Rattle.std.specs.declared.io.Error.{Error}
 use Rattle.stream.specs.declared.Flow.{Flow}
-use Rattle.stream.specs.Turns.{Moved, unread, Within, Busy, place_in, fed, failed, done, Closed, AfterRead, PieceRead, PieceAnswered, Turned}
+use Rattle.stream.specs.declared.Stand.TheVariants.{Running, Done}
+use Rattle.stream.specs.Turns.{Moved, unread, Within, Busy, place_in, fed, failed, done, Closed, AfterRead, PieceRead, stand_after, PieceAnswered, Turned}
 use Rattle.stream.specs.Moves.{most_turns, Came, begins, writes, reads, closes, Ran}
 use Rattle.stream.proofs.Came.{came-so-far, came-all, came-left}
 
@@ -26,24 +29,24 @@ pub record Going (l₀ : List ℕ) (n : ℕ) (f : Flow) (l bs : List ℕ) : Type
   pub pieces : List (List ℕ)
   pub text : List ℕ
   pub came : Came l₀ moves pieces text f.closed (place_in f l bs)
-  pub count : f.done ≡ false → f.failed ≡ false → moves ≡ n
+  pub count : f.stand ≡ Running → moves ≡ n
   pub within : Within f bs
-  pub answered : f.done ≡ true → (idle (place_in f l bs) ≡ true) × (is_none (held_in f.run.line) ≡ true)
+  pub answered : f.stand ≡ Done → (idle (place_in f l bs) ≡ true) × (is_none (held_in f.run.line) ≡ true)
 
 -- before the first turn
-pub start-goes : (run : Run) (l bs : List ℕ) → Starts run → Going l 0 (record { run = run; from = 0; to = 0; closed = false; failed = false; done = false }) l bs
+pub start-goes : (run : Run) (l bs : List ℕ) → Starts run → Going l 0 (record { run = run; from = 0; to = 0; closed = false; stand = Running }) l bs
 start-goes run l bs s = record {
   moves = 0;
   pieces = [];
   text = [];
-  came = subst⁻¹ (Came l 0 [] [] false) (s l) begins;
-  count = λ d f. refl;
+  came = subst⁻¹ (Came l 0 [] [] false) (s.1 l) begins;
+  count = λ r. refl;
   within = record { from = omega arith; to = omega arith };
-  answered = λ d. absurd (false≢true d);
+  answered = λ d. absurd (cc);
 }
 
 -- where it stops
-pub goes-ran : {l₀ : List ℕ} (n : ℕ) (f : Flow) (l bs : List ℕ) → (f.done ≡ false → f.failed ≡ false → n ≡ most_turns) → Going l₀ n f l bs → Ran l₀ n f l bs
+pub goes-ran : {l₀ : List ℕ} (n : ℕ) (f : Flow) (l bs : List ℕ) → (f.stand ≡ Running → n ≡ most_turns) → Going l₀ n f l bs → Ran l₀ n f l bs
 goes-ran n f l bs h g = record {
   moves = g.moves;
   pieces = g.pieces;
@@ -52,10 +55,15 @@ goes-ran n f l bs h g = record {
   so_far = came-so-far g.came;
   all = λ d. let a = g.answered d in came-all g.came a.0 a.1;
   left = λ d. let a = g.answered d in came-left g.came a.0 a.1;
-  early = λ d e. (h d e, g.count d e);
+  early = λ r. (h r, g.count r);
 }
 
 -- ---- one turn
+
+-- a write leaves the loop going on or failed
+not-done : (z : Result (Unit {0}) Error) → ¬ (stand_after z ≡ Done)
+not-done (Ok x) e = cc
+not-done (Err why) e = cc
 
 first-set : (bs : List ℕ) → 1 ≤ length bs → take 1 (set bs 0 lf) ≡ lf ∷ []
 first-set [] h = absurd (omega arith)
@@ -72,7 +80,7 @@ module _ {l₀ : List ℕ} (n : ℕ) (f : Flow) (l bs : List ℕ) (b : Busy f bs
   m = place_in f l bs
 
   taken : suc g.moves ≡ n + 1
-  taken = omega (arith, g.count b.undone b.sound)
+  taken = omega (arith, g.count b.running)
 
   module _ (i : idle m ≡ true) where
     -- nothing of the piece is unread
@@ -85,9 +93,9 @@ module _ {l₀ : List ℕ} (n : ℕ) (f : Flow) (l bs : List ℕ) (b : Busy f bs
       pieces = g.pieces;
       text = g.text;
       came = at_none (Came l₀ g.moves g.pieces g.text f.closed) g.came;
-      count = λ d e. absurd (true≢false e);
+      count = λ r. absurd (cc);
       within = record { from = omega arith; to = omega arith };
-      answered = λ d. absurd (false≢true d);
+      answered = λ d. absurd (cc);
     }
 
     done-goes : (given : List ℕ) → is_none (held_in f.run.line) ≡ true → Going l₀ (n + 1) (done f) l given
@@ -96,7 +104,7 @@ module _ {l₀ : List ℕ} (n : ℕ) (f : Flow) (l bs : List ℕ) (b : Busy f bs
       pieces = g.pieces;
       text = g.text;
       came = at_none (Came l₀ g.moves g.pieces g.text f.closed) g.came;
-      count = λ d e. absurd (true≢false d);
+      count = λ r. absurd (cc);
       within = record { from = omega arith; to = omega arith };
       answered = λ d. (at_none (λ (k : Place). idle k ≡ true) i, none);
     }
@@ -107,9 +115,9 @@ module _ {l₀ : List ℕ} (n : ℕ) (f : Flow) (l bs : List ℕ) (b : Busy f bs
       pieces = g.pieces;
       text = g.text;
       came = subst⁻¹ (λ (x : List ℕ). Came l₀ (suc g.moves) g.pieces g.text true (place_of f.run l x)) (first-set given h) (closes i held g.came);
-      count = λ d e. taken;
+      count = λ r. taken;
       within = record { from = omega arith; to = simp length-set (omega arith) };
-      answered = λ d. absurd (false≢true d);
+      answered = λ d. absurd (cc);
     }
 
     closed-goes : (given : List ℕ) → 1 ≤ length given → (r : Flow) (bs' : List ℕ) → Closed f given r bs' → Going l₀ (n + 1) r l bs'
@@ -127,15 +135,15 @@ module _ {l₀ : List ℕ} (n : ℕ) (f : Flow) (l bs : List ℕ) (b : Busy f bs
             pieces = g.pieces ++ p ∷ [];
             text = g.text;
             came = reads p (omega (arith, length-take (suc k - 0) given)) i (subst (λ (e : Bool). Came l₀ g.moves g.pieces g.text e m) unclosed g.came);
-            count = λ d e. taken;
+            count = λ r. taken;
             within = record { from = omega arith; to = omega arith };
-            answered = λ d. absurd (false≢true d);
+            answered = λ d. absurd (cc);
           }
 
-      read_goes : (got : ℤ) (given : List ℕ) → 1 ≤ length given → Moved (length given) got → (r : Flow) (bs' : List ℕ) → AfterRead got f given r bs' → Going l₀ (n + 1) r l bs'
-      read_goes (negsuc k) given h v r bs' a = rw (a.0, a.1) (fail-goes given)
-      read_goes (pos zero) given h v r bs' a = closed-goes given h r bs' a
-      read_goes (pos (suc k)) given h v r bs' a = rw (a.0, a.1) (feed-goes given k v)
+      read_goes : (got : Result ℕ Error) (given : List ℕ) → 1 ≤ length given → Moved (length given) got → (r : Flow) (bs' : List ℕ) → AfterRead got f given r bs' → Going l₀ (n + 1) r l bs'
+      read_goes (Err why) given h v r bs' a = rw (a.0, a.1) (fail-goes given)
+      read_goes (Ok zero) given h v r bs' a = closed-goes given h r bs' a
+      read_goes (Ok (suc k)) given h v r bs' a = rw (a.0, a.1) (feed-goes given k v)
 
       reading-goes : (r : Flow) (bs' : List ℕ) → PieceRead f bs r bs' → Going l₀ (n + 1) r l bs'
       reading-goes r bs' x =
@@ -155,9 +163,9 @@ module _ {l₀ : List ℕ} (n : ℕ) (f : Flow) (l bs : List ℕ) (b : Busy f bs
         text = g.text ++ a.advanced.text;
         came = subst (λ (x : List ℕ). Came l₀ (suc g.moves) g.pieces (g.text ++ a.advanced.text) f.closed (place_of p.run l' x))
             (unread-rest f.from f.to p.read bs (omega arith)) (writes (length d) room i a.advanced.goes g.came);
-        count = λ x y. taken;
+        count = λ r. taken;
         within = record { from = omega arith; to = w.to };
-        answered = λ x. absurd (false≢true x);
+        answered = λ d. absurd (not-done a.taken d);
       })
 
   pub turn-goes : (d : List ℕ) → most_text ≤ length d → (r : Flow) (l' bs' e : List ℕ) → Turned f l bs d r l' bs' e → Going l₀ (n + 1) r l' bs'

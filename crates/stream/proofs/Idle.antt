@@ -1,15 +1,15 @@
 -- The code's test for an idle program is that of a run. Assumes nothing.
-use mathlib.Core.Path.{◌≡◌, sym, ap₂, ◌∙◌}
-use mathlib.Core.Bool.{Bool, ◌&&◌}
+use mathlib.Core.Path.{◌≡◌, sym, ap, ◌∙◌}
+use mathlib.Core.Bool.{Bool, not, ◌&&◌}
 use mathlib.Core.List.{List}
 use Prim.Native.Nat.{ℕ, ◌-◌}
 use native.Mathlib.Decide.{dec_le}
 use native.Mathlib.Omega.{arith}
 use borrow.Author.Tests.{eq-eqb, ne_eqb, le-leb, lt-leb}
-use lib.Dec.{eqb, leb}
+use lib.Dec.{eqb, leb, ltb}
 use lib.ListN.{length, drop, length-take, length-drop}
-use Rattle.roles.proofs.Tests.{leb-not}
 use Rattle.area.specs.Layout.{most_rows}
+use Rattle.lines.specs.Run.{row_number}
 use Rattle.lines.specs.Program.{idle}
 use Rattle.stream.specs.declared.Flow.{Flow}
 use Rattle.stream.specs.Turns.{unread, Within, place_in}
@@ -25,5 +25,5 @@ module _ (f : Flow) (l bs : List ℕ) (w : Within f bs) where
         | no h ↦ lt-leb f.to f.from (omega arith) ∙ sym (ne_eqb (length (unread f bs)) 0 (λ e. omega (arith, long)))
       ]
 
-  pub idle-is : (leb most_rows f.run.row && leb f.to f.from) ≡ idle (place_in f l bs)
-  idle-is = ap₂ (λ (x y : Bool). x && y) (leb-not most_rows f.run.row) nothing-unread
+  pub idle-is : (not (ltb (row_number f.run.row) most_rows) && leb f.to f.from) ≡ idle (place_in f l bs)
+  idle-is = ap (λ (x : Bool). not (ltb (row_number f.run.row) most_rows) && x) nothing-unread

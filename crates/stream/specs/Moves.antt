@@ -15,6 +15,7 @@ use Rattle.lines.specs.Written.{lines_write, lines_leave}
 use Rattle.lines.specs.Run.{Place, Advances}
 use Rattle.lines.specs.Program.{start, idle, fed_with}
 use Rattle.stream.specs.declared.Flow.{Flow}
+use Rattle.stream.specs.declared.Stand.TheVariants.{Running, Done}
 use Rattle.stream.specs.Turns.{place_in}
 
 abbrev pub most_turns : ℕ
@@ -37,6 +38,6 @@ pub record Ran (l : List ℕ) (n : ℕ) (f : Flow) (l' bs : List ℕ) : Type 0 w
   pub text : List ℕ
   pub came : Came l moves pieces text f.closed (place_in f l' bs)
   pub so_far : (u : List ℕ) × (text ++ u ≡ lines_write l (whole pieces))
-  pub all : f.done ≡ true → text ≡ lines_write l (whole pieces)
-  pub left : f.done ≡ true → l' ≡ lines_leave l (whole pieces)
-  pub early : f.done ≡ false → f.failed ≡ false → (n ≡ most_turns) × (moves ≡ n)
+  pub all : f.stand ≡ Done → text ≡ lines_write l (whole pieces)
+  pub left : f.stand ≡ Done → l' ≡ lines_leave l (whole pieces)
+  pub early : f.stand ≡ Running → (n ≡ most_turns) × (moves ≡ n)

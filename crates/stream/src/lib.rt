@@ -5,78 +5,65 @@
 
 pub mod outside;
 
-ghost use Rattle.std.specs.Prelude.{◌≡◌, ◌&&◌, ◌+◌, ◌≤◌, leb, length};
+ghost use Rattle.std.specs.Prelude.{◌≡◌, not, ◌&&◌, ◌+◌, ◌≤◌, leb, nat_lt, length};
 ghost use Rattle.area.specs.Layout.{most_rows};
 ghost use Rattle.answers.specs.Texts.{most_text};
-ghost use Rattle.stream.specs.Turns.{Moved, fed, failed, done, Closed, AfterRead, after_write};
+ghost use Rattle.lines.specs.Run.{row_number};
+ghost use Rattle.stream.specs.Turns.{Moved, fed, stopped, Closed, AfterRead, after_write};
 ghost use Rattle.stream.specs.Moves.{Ran};
 
-use area::MOST_ROWS;
 use lines::{Progress, Run, start};
 use outside::{Got, Sent, turn};
 use std::io::{Read, Write};
 
-// The run; the places of the piece from which and up to which it is to be read; whether a last line without LF has got one;
-// whether a read or a write failed, and whether all is answered.
+// Where the loop stands: it goes on; a read or a write failed, and nothing more is answered; all is answered.
+#[derive(Clone, Copy, PartialEq, Eq)]
+pub enum Stand {
+    Running,
+    Failed,
+    Done,
+}
+
+// The run; the places of the piece from which and up to which it is to be read; whether a last line without LF has got one, beside
+// which the loop may stand anywhere; where it stands.
 #[derive(Clone, Copy)]
 pub struct Flow {
     pub run: Run,
     pub from: usize,
     pub to: usize,
     pub closed: bool,
-    pub failed: bool,
-    pub done: bool,
+    pub stand: Stand,
 }
 
 // Whether all that came in is read, and all that is to be shown is shown.
 fn is_idle(flow: Flow) -> bool
-    ensures { result ≡ (leb most_rows flow.run.row && leb flow.to flow.from) }
+    ensures { result ≡ (not (nat_lt (row_number flow.run.row) most_rows) && leb flow.to flow.from) }
 {
-    let run = flow.run;
-    (MOST_ROWS <= run.row) & (flow.to <= flow.from)
+    !flow.run.is_showing() & (flow.to <= flow.from)
 }
 
 // The first n bytes of the piece are to be read.
 fn feed(flow: Flow, n: usize, closed: bool) -> Flow
     ensures { result ≡ fed n closed flow }
 {
-    let run = flow.run;
     Flow {
-        run,
         from: 0,
         to: n,
         closed,
-        failed: false,
-        done: false,
+        stand: Stand::Running,
+        ..flow
     }
 }
 
-// A read failed: what is held of a line need not be all of it, so it is not answered.
-fn fail(flow: Flow) -> Flow
-    ensures { result ≡ failed flow }
+// The loop stops, with nothing left to be read.
+fn stop(flow: Flow, stand: Stand) -> Flow
+    ensures { result ≡ stopped stand flow }
 {
-    let run = flow.run;
     Flow {
-        run,
         from: 0,
         to: 0,
-        closed: flow.closed,
-        failed: true,
-        done: false,
-    }
-}
-
-fn finish(flow: Flow) -> Flow
-    ensures { result ≡ done flow }
-{
-    let run = flow.run;
-    Flow {
-        run,
-        from: 0,
-        to: 0,
-        closed: flow.closed,
-        failed: false,
-        done: true,
+        stand,
+        ..flow
     }
 }
 
@@ -88,41 +75,39 @@ fn close(flow: Flow, piece: &mut [u8]) -> Flow
     let run = flow.run;
     let line = run.line;
     if line.is_empty() {
-        return finish(flow);
+        return stop(flow, Stand::Done);
     }
     piece[0] = b'\n';
     feed(flow, 1, true)
 }
 
-// By what a read answered: it failed, the input has ended, or its bytes are the piece.
+// By what a read answered: it failed, and what is held of a line need not be all of it, so it is not answered; the input has
+// ended; or its bytes are the piece.
 fn after_read(flow: Flow, piece: &mut [u8], got: Got) -> Flow
     requires { (1 ≤ length piece.old) × Moved (length piece.old) got.answer }
     ensures { AfterRead got.answer flow piece.old result piece.new }
 {
-    let answer = got.answer();
-    if answer < 0 {
-        return fail(flow);
+    match got.answer() {
+        Err(_) => stop(flow, Stand::Failed),
+        Ok(0) => close(flow, piece),
+        Ok(n) => feed(flow, n, false),
     }
-    let n = io::count(answer, piece);
-    if n == 0 {
-        return close(flow, piece);
-    }
-    feed(flow, n, false)
 }
 
 // The piece is answered as far as p, and what p wrote was handed to the output.
 fn after_write(flow: Flow, p: Progress, sent: Sent) -> Flow
     requires { (flow.from + p.read ≤ flow.to) × (sent.bytes ≡ p.written) }
-    ensures { result ≡ after_write sent.all flow p }
+    ensures { result ≡ after_write sent.taken flow p }
 {
-    let run = p.run;
+    let stand = match sent.taken() {
+        Ok(()) => Stand::Running,
+        Err(_) => Stand::Failed,
+    };
     Flow {
-        run,
+        run: p.run,
         from: flow.from + p.read,
-        to: flow.to,
-        closed: flow.closed,
-        failed: !sent.all(),
-        done: false,
+        stand,
+        ..flow
     }
 }
 
@@ -133,8 +118,8 @@ pub struct Ended {
     pub turns: u64,
 }
 
-// All of the input, up to a failure. A proved loop has to end, so this one counts its turns up to a number that no run comes
-// to.
+// All of the input, up to a failure. A proved loop has to end, so this one has as many turns as no run comes to. The area and the two
+// buffers are lent one by one: each is said of alone, and a struct of the three would be made by each program for this call.
 pub fn answer_input<R: Read, W: Write>(
     input: &mut R,
     output: &mut W,
@@ -150,13 +135,16 @@ pub fn answer_input<R: Read, W: Write>(
         from: 0,
         to: 0,
         closed: false,
-        failed: false,
-        done: false,
+        stand: Stand::Running,
     };
-    let mut turns: u64 = 0;
-    while turns < u64::MAX && !(flow.done | flow.failed) {
-        turns += 1;
+    for turns in 0..u64::MAX {
+        if flow.stand != Stand::Running {
+            return Ended { flow, turns };
+        }
         flow = turn(input, output, flow, area, piece, out);
     }
-    Ended { flow, turns }
+    Ended {
+        flow,
+        turns: u64::MAX,
+    }
 }

@@ -6,16 +6,16 @@ ghost use Rattle.stream.specs.Turns.{Moved, Within, Busy, PieceRead, PieceAnswer
 
 use super::{Flow, after_read, after_write, close, is_idle};
 use lines::advance;
-use std::io::{Error, Read, Write};
+use std::io::{Read, Result, Write};
 
-// What a read of the input answered: -1, or how many bytes it put at the start of the piece, none at the end of the input.
+// What a read of the input answered: how many bytes it put at the start of the piece, none at the end of the input.
 #[derive(Clone, Copy)]
 pub struct Got {
-    answer: isize,
+    answer: Result<usize>,
 }
 
 impl Got {
-    pub fn answer(self) -> isize
+    pub fn answer(self) -> Result<usize>
         ensures { result ≡ self.answer }
     {
         self.answer
@@ -25,31 +25,29 @@ impl Got {
 fn read<R: Read>(input: &mut R, piece: &mut [u8]) -> Got
     ensures { Moved (length piece.old) result.answer }
 {
-    match input.read(piece) {
-        Ok(n) => Got { answer: n as isize },
-        Err(_) => Got { answer: -1 },
+    Got {
+        answer: input.read(piece),
     }
 }
 
-// How many bytes were handed to the output, and whether it took them all; where it did not, why.
+// How many bytes were handed to the output, and what it answered: that it took them all, or why not.
 #[derive(Clone, Copy)]
 pub struct Sent {
     bytes: usize,
-    all: bool,
-    why: Error,
+    taken: Result<()>,
 }
 
 impl Sent {
-    pub fn all(self) -> bool
-        ensures { result ≡ self.all }
+    pub fn bytes(self) -> usize
+        ensures { result ≡ self.bytes }
     {
-        self.all
+        self.bytes
     }
 
-    pub fn why(self) -> Error
-        ensures { result ≡ self.why }
+    pub fn taken(self) -> Result<()>
+        ensures { result ≡ self.taken }
     {
-        self.why
+        self.taken
     }
 }
 
@@ -59,18 +57,9 @@ pub fn write_first<W: Write>(output: &mut W, n: usize, out: &[u8]) -> Sent
     ensures { result.bytes ≡ n }
 {
     let part = &out[..n];
-    let bytes = part.len();
-    match output.write_all(part) {
-        Ok(()) => Sent {
-            bytes,
-            all: true,
-            why: Error::from_raw_os_error(0),
-        },
-        Err(why) => Sent {
-            bytes,
-            all: false,
-            why,
-        },
+    Sent {
+        bytes: part.len(),
+        taken: output.write_all(part),
     }
 }
 

@@ -5,16 +5,14 @@
 --     nth i es         the row of number i
 --     row_from d l     the row that a denied set and open sets make
 --     has_row p es     p has a row
---     found_for p es   where the row of p stands, or would stand
-use Rattle.std.specs.Prelude.{Bool, cond, ◌&&◌, List, ◌≡◌, ℕ, ◌≤◌, T, ltb, eqb, length, get_or}
+--     found_for p es   where the row of p stands, else, as an Err, where it would stand
+use Rattle.std.specs.Prelude.{Bool, cond, ◌&&◌, List, ◌≡◌, ℕ, ◌≤◌, T, ltb, eqb, length, get_or, Result, Ok, Err}
 use Rattle.meaning.specs.Rows.{Row, blank}
 use Rattle.area.specs.Layout.{most_rows, area_bytes, good_bytes}
 use Rattle.area.specs.State.{with_rows, Entry, State, entry, state_of, place}
 use Rattle.roles.specs.declared.RoleSet.{RoleSet}
 use Rattle.rows.specs.declared.OpenSets.{OpenSets}
 use Rattle.rows.specs.Stored.{held}
-use Rattle.table.specs.declared.Found.{Found}
-use Rattle.table.specs.declared.Found.TheVariants.{At, Vacant}
 
 abbrev pub rows_in : List ℕ → List Entry
 rows_in l = (state_of l).rows
@@ -39,5 +37,5 @@ row_from d l = record { denied = d.bits; opens = held l }
 abbrev pub has_row : ℕ → List Entry → Bool
 has_row p es = ltb (place p es) (length es) && eqb (nth (place p es) es).permission p
 
-unfoldable pub found_for : ℕ → List Entry → Found
-found_for p es = cond (has_row p es) (At (place p es)) (Vacant (place p es))
+unfoldable pub found_for : ℕ → List Entry → Result ℕ ℕ
+found_for p es = cond (has_row p es) (Ok (place p es)) (Err (place p es))

@@ -1,28 +1,18 @@
 -- Up to the first LF. Assumes nothing.
-use mathlib.Core.Path.{◌≡◌, refl}
+use mathlib.Core.Path.{◌≡◌, refl, ap}
 use mathlib.Core.Bool.{Bool, true, false, cond}
 use mathlib.Core.List.{List, [], ◌∷◌}
-use Prim.Native.Nat.{ℕ, suc, ◌+◌, ◌≤◌, ◌<◌}
+use Prim.Native.Nat.{ℕ, suc, ◌≤◌}
 use native.Mathlib.Omega.{arith}
-use borrow.Author.Tests.{ne_eqb}
-use lib.Dec.{eqb}
-use lib.ListN.{length, drop, get_or, drop_of_length-le}
+use borrow.Author.Tests.{ltb-false}
+use lib.Dec.{ltb, eqb}
+use lib.ListN.{length}
+use Rattle.std.specs.Prelude.{Some, None, position}
+use Rattle.std.specs.List.{position_or_len}
+use Rattle.std.specs.Option.{unwrap_or}
+use Rattle.std.proofs.lemmas.List.Recursion.{is_position_or_len}
 use Rattle.text.specs.Ascii.{lf}
 use Rattle.text.specs.Lines.{before_lf}
-use Rattle.text.proofs.Walks.{next-cons}
-
-module _ (bs : List ℕ) (i : ℕ) where
-  pub before-hit : i < length bs → get_or bs i 0 ≡ lf → before_lf (drop i bs) ≡ 0
-  unfolding before_lf
-  before-hit h e = rw (next-cons bs i h, e) refl
-
-  pub before-miss : i < length bs → (get_or bs i 0 ≡ lf → ⊥) → before_lf (drop i bs) ≡ suc (before_lf (drop (i + 1) bs))
-  unfolding before_lf
-  before-miss h n = rw (next-cons bs i h, ne_eqb (get_or bs i 0) lf n) refl
-
-  pub before-end : length bs ≤ i → before_lf (drop i bs) ≡ 0
-  unfolding before_lf
-  before-end h = rw (drop_of_length-le bs {i = i} h) refl
 
 pub before-most : (bs : List ℕ) → before_lf bs ≤ length bs
 unfolding before_lf
@@ -32,3 +22,15 @@ before-most (b ∷ bs) = go (eqb b lf) (before-most bs)
     go : (t : Bool) → before_lf bs ≤ length bs → cond t 0 (suc (before_lf bs)) ≤ suc (length bs)
     go true h = omega arith
     go false h = omega arith
+
+-- what `position` finds of an LF; the length where it finds none
+pub before-found : (bs : List ℕ) → unwrap_or (position (λ b. eqb b lf) bs) (length bs) ≡ before_lf bs
+unfolding before_lf
+before-found bs = rw (← before-position) (go (ltb (before_lf bs) (length bs)) refl)
+  where
+    before-position : before_lf bs ≡ position_or_len (λ b. eqb b lf) bs
+    before-position = is_position_or_len before_lf (λ b. eqb b lf) refl (λ b bs. ap (λ (n : ℕ). cond (eqb b lf) 0 n) (omega arith)) bs
+
+    go : (t : Bool) → ltb (before_lf bs) (length bs) ≡ t → unwrap_or (cond t (Some (before_lf bs)) None) (length bs) ≡ before_lf bs
+    go true e = refl
+    go false e = omega (arith, before-most bs, ltb-false (before_lf bs) (length bs) e)

@@ -8,12 +8,12 @@ use native.Mathlib.Omega.{arith}
 use borrow.Author.Tests.{lt-ltb, le-ltb, ne_eqb, ltb-false, eqb-true, eqb-false}
 use lib.Dec.{lit<, ltb, eqb}
 use lib.ListN.{drop}
-use Rattle.roles.specs.Sets.{most_roles, last_role, single, joined, set_of}
+use Rattle.roles.specs.Sets.{most_roles, last_role, single, joined, set_of, roles_of}
 use Rattle.text.specs.Ascii.{comma, minus}
 use Rattle.text.specs.Number.{number_text, Got, found, bad, is_digit, digit_next, next_is, read_number}
-use Rattle.text.specs.Set.{roles_of, role_text, roles_text, set_text, read_role, read_roles, read_set, Ends}
+use Rattle.text.specs.Set.{role_text, roles_text, set_text, read_role, read_roles, read_set, Ends}
 use Rattle.text.proofs.NumberLaws.{number-nothing, number-back, number-only, next-is, bad≢found}
-use Rattle.text.proofs.RoleLists.{From, roles-from, set_of-roles_of, roles_of-set_of, set_of-below, set_of-nonempty, joined-set_of, joined-alone}
+use Rattle.roles.proofs.RoleLists.{From, roles-from, set_of-roles_of, roles_of-set_of, set_of-below, set_of-nonempty, joined-set_of, joined-alone}
 
 -- ---- reading, role by role
 

@@ -8,12 +8,12 @@ use native.Mathlib.Decide.{dec_lt}
 use native.Mathlib.Omega.{arith}
 use lib.Dec.{eqb}
 use lib.ListN.{length, length-append}
-use Rattle.roles.specs.Sets.{most_roles}
+use Rattle.roles.specs.Sets.{most_roles, roles_of}
 use Rattle.text.specs.Ascii.{digit_zero, comma, minus, Lacks}
 use Rattle.text.specs.Number.{number_text, is_digit}
-use Rattle.text.specs.Set.{roles_of, role_text, roles_text, set_text}
+use Rattle.text.specs.Set.{role_text, roles_text, set_text}
 use Rattle.text.proofs.NumberLaws.{text-small, text-step, digit-yes}
-use Rattle.text.proofs.RoleLists.{From, roles-from}
+use Rattle.roles.proofs.RoleLists.{From, roles-from}
 
 -- ---- lengths
 

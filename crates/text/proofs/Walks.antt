@@ -1,23 +1,25 @@
 -- The readers along a line: what stands at a place, and what an answer of the code says of the bytes. Assumes nothing.
-use mathlib.Core.Path.{◌≡◌, refl, sym, ap, ◌∙◌}
+use mathlib.Core.Path.{◌≡◌, refl, sym, ap, ◌∙◌, subst}
 use mathlib.Core.Bool.{true, false, cond, false≢true}
-use mathlib.Core.List.{List, ◌∷◌, ◌++◌, append_assoc}
+use mathlib.Core.List.{List, [], ◌∷◌, ◌++◌, append_assoc}
 use mathlib.Core.Logic.{by_cases}
 use Prim.Native.Nat.{ℕ, zero, suc, ◌+◌, ◌-◌, ◌≤◌, ◌<◌}
 use native.Mathlib.Decide.{dec_lt}
 use native.Mathlib.Numerals.{add-one}
 use native.Mathlib.Omega.{arith}
 use lib.Dec.{eqb}
+use Rattle.std.specs.Prelude.{Option, Some, None}
+use Rattle.std.specs.Option.{option_eq}
+use Rattle.std.specs.Slice.{IsItemAt}
+use denote.Bor.{Bor}
 use lib.ListN.{length, take, drop, get_or, drop_of_length-le, length-drop, length-append, take-append-drop}
-use lib.Seq.{drop-cons, drop_at, drop-drop}
+use lib.Seq.{drop-cons, drop_at, drop-drop, take-length}
 use Rattle.roles.specs.Sets.{single, joined, last_role, most_roles}
 use Rattle.roles.specs.declared.RoleSet.{RoleSet}
 use Rattle.text.specs.Ascii.{comma}
 use Rattle.text.specs.Number.{number_text, Got, found, bad, is_digit, digit_next, next_is, read_number}
 use Rattle.text.specs.Set.{set_text, read_roles, read_set}
-use Rattle.text.specs.Field.{number_field, set_field}
-use Rattle.text.specs.declared.NumberField.TheVariants as number
-use Rattle.text.specs.declared.SetField.TheVariants as set
+use Rattle.text.specs.Field.{field, number_field, set_field}
 use Rattle.text.proofs.NumberLaws.{number-only}
 use Rattle.text.proofs.SetLaws.{set-only, roles-step, roles-bad, roles-low}
 
@@ -34,17 +36,32 @@ pub digit-past : (line : List ℕ) (i : ℕ) → length line ≤ i → false ≡
 unfolding digit_next
 digit-past line i h = sym (ap digit_next (drop_of_length-le line h))
 
-pub byte-there : (b : ℕ) (line : List ℕ) (i : ℕ) → i < length line → eqb (get_or line i 0) b ≡ next_is b (drop i line)
-unfolding next_is
-byte-there b line i h = sym (ap (next_is b) (next-cons line i h))
-
 pub byte_past : (b : ℕ) (line : List ℕ) (i : ℕ) → length line ≤ i → false ≡ next_is b (drop i line)
 unfolding next_is
 byte_past b line i h = sym (ap (next_is b) (drop_of_length-le line h))
 
+-- what `get` lends at a place is the first of the bytes from there on
+module _ (line : List ℕ) (i : ℕ) {r : Option (Bor ℕ)} (g : IsItemAt line i r) where
+  pub lent-first : {x : Bor ℕ} → r ≡ Some x → drop i line ≡ x.now ∷ drop (i + 1) line
+  lent-first {x} e =
+      let h = subst (IsItemAt line i) e g in
+      next-cons line i h.3.0 ∙ ap (λ (c : ℕ). c ∷ drop (i + 1) line) (sym (h.3.1 0))
+
+  pub lent-none : r ≡ None → drop i line ≡ []
+  lent-none e = drop_of_length-le line (subst (IsItemAt line i) e g).3
+
+pub byte-lent : (b : ℕ) (line : List ℕ) (i : ℕ) (r : Option (Bor ℕ)) (y : Bor ℕ) → IsItemAt line i r → y.now ≡ b → option_eq (λ x y. eqb x.now y.now) r (Some y) ≡ next_is b (drop i line)
+unfolding next_is
+byte-lent b line i None y g e = rw (lent-none line i g refl) refl
+byte-lent b line i (Some x) y g e = rw (lent-first line i g {x = x} refl, e) refl
+
 -- a byte that is there stands inside the line
 pub byte_inside : (b : ℕ) (line : List ℕ) (i : ℕ) → next_is b (drop i line) ≡ true → i < length line
 byte_inside b line i e = by_cases (dec_lt i (length line)) (λ h. h) (λ h. absurd (false≢true (byte_past b line i (omega arith) ∙ e)))
+
+-- the bytes from a place on, as a range
+pub rest-range : (line : List ℕ) (i : ℕ) → take (length line - i) (drop i line) ≡ drop i line
+rest-range line i = rw (← length-drop i line) (take-length (drop i line))
 
 -- ---- the place behind a text
 
@@ -52,11 +69,14 @@ byte_inside b line i e = by_cases (dec_lt i (length line)) (λ h. h) (λ h. absu
 pub place-back : (line : List ℕ) (i : ℕ) → i ≤ length line → length line - length (drop i line) ≡ i
 place-back line i h = omega (arith, length-drop i line)
 
-pub number-here : (line : List ℕ) (v i : ℕ) → i ≤ length line → number.Read v i ≡ number_field line (found v (drop i line))
-number-here line v i h = ap (number.Read v) (sym (place-back line i h))
+pub field-here : {A : Type 0} (make : ℕ → A) (line : List ℕ) (v i : ℕ) → i ≤ length line → Some (make v, i) ≡ field make line (found v (drop i line))
+field-here make line v i h = ap (λ (n : ℕ). Some (make v, n)) (sym (place-back line i h))
 
-pub set_here : (line : List ℕ) (s : RoleSet) (i : ℕ) → i ≤ length line → set.Read s i ≡ set_field line (found s.bits (drop i line))
-set_here line s i h = ap (set.Read s) (sym (place-back line i h))
+pub number-here : (line : List ℕ) (v i : ℕ) → i ≤ length line → Some (v, i) ≡ number_field line (found v (drop i line))
+number-here = field-here (λ v. v)
+
+pub set_here : (line : List ℕ) (s : RoleSet) (i : ℕ) → i ≤ length line → Some (s, i) ≡ set_field line (found s.bits (drop i line))
+set_here line s = field-here (λ s. record { bits = s }) line s.bits
 
 behind : (line t rest : List ℕ) (i : ℕ) → drop i line ≡ t ++ rest → (drop (length line - length rest) line ≡ rest) × (length line - length rest ≤ length line)
 behind line t rest i e =
@@ -64,46 +84,52 @@ behind line t rest i e =
     let n : length line ≡ length (take i line ++ t) + length rest = ap length w ∙ length-append (take i line ++ t) rest in
     (ap (drop (length line - length rest)) w ∙ drop_at (take i line ++ t) rest (length line - length rest) (omega arith), omega arith)
 
--- ---- what an answer of `read_number` says of the bytes
+-- ---- what an answer of the code says of the bytes
 
+pub record FieldThere {A : Type 0} (make : ℕ → A) (line : List ℕ) (g : Got) (a : A) (n : ℕ) : Type 0 where
+  pub value : ℕ
+  pub rest : List ℕ
+  pub was : g ≡ found value rest
+  pub made : a ≡ make value
+  pub place : n ≡ length line - length rest
+
+module _ {A : Type 0} (make : ℕ → A) (line : List ℕ) where
+  pub field-there : (g : Got) (a : A) (n : ℕ) → Some (a, n) ≡ field make line g → FieldThere make line g a n
+  field-there (found v rest) a n q =
+      let p : (a, n) ≡ (make v, length line - length rest) = cc in
+      record { value = v; rest = rest; was = refl; made = ap (λ (x : A × ℕ). x.0) p; place = ap (λ (x : A × ℕ). x.1) p }
+  field-there bad a n q = let z : ◌≡◌ {A = ℕ} 0 1 = cc in absurd (omega arith)
+
+  pub field-bad : (g : Got) → None ≡ field make line g → g ≡ bad
+  field-bad (found w rest) q = let z : ◌≡◌ {A = ℕ} 0 1 = cc in absurd (omega arith)
+  field-bad bad q = refl
+
+-- of `read_number`
 pub record NumberThere (limit : ℕ) (line : List ℕ) (i v n : ℕ) : Type 0 where
   pub reads : read_number limit (drop i line) ≡ found v (drop n line)
   pub small : v ≤ limit
   pub inside : n ≤ length line
 
-pub number_read : (limit : ℕ) (line : List ℕ) (i v n : ℕ) → number.Read v n ≡ number_field line (read_number limit (drop i line)) → NumberThere limit line i v n
-number_read limit line i v n q = go (read_number limit (drop i line)) refl q
-  where
-    go : (g : Got) → read_number limit (drop i line) ≡ g → number.Read v n ≡ number_field line g → NumberThere limit line i v n
-    go (found w rest) e r =
-        let p = number-only limit (drop i line) w rest e in
-        let b = behind line (number_text w) rest i p.same in
-        let x : v ≡ w = cc in
-        let y : n ≡ length line - length rest = cc in
-        record { reads = rw (x, y, b.0) e; small = rw x p.small; inside = rw y b.1 }
-    go bad e r = let z : ◌≡◌ {A = ℕ} 0 1 = cc in absurd (omega arith)
+pub number_read : (limit : ℕ) (line : List ℕ) (i v n : ℕ) → Some (v, n) ≡ number_field line (read_number limit (drop i line)) → NumberThere limit line i v n
+number_read limit line i v n q =
+    let f = field-there (λ v. v) line (read_number limit (drop i line)) v n q in
+    let p = number-only limit (drop i line) f.value f.rest f.was in
+    let b = behind line (number_text f.value) f.rest i p.same in
+    record { reads = cc; small = omega arith; inside = omega arith }
 
-pub number-bad : (line : List ℕ) (g : Got) → number.Bad ≡ number_field line g → g ≡ bad
-number-bad line (found w rest) q = let z : ◌≡◌ {A = ℕ} 0 1 = cc in absurd (omega arith)
-number-bad line bad q = refl
-
--- ---- what an answer of `read_set` says of the bytes
-
+-- of `read_set`
 pub record SetThere (line : List ℕ) (i : ℕ) (s : RoleSet) (n : ℕ) : Type 0 where
   pub reads : read_set (drop i line) ≡ found s.bits (drop n line)
   pub inside : n ≤ length line
 
-pub set-read : (line : List ℕ) (i : ℕ) (s : RoleSet) (n : ℕ) → set.Read s n ≡ set_field line (read_set (drop i line)) → SetThere line i s n
-set-read line i s n q = go (read_set (drop i line)) refl q
-  where
-    go : (g : Got) → read_set (drop i line) ≡ g → set.Read s n ≡ set_field line g → SetThere line i s n
-    go (found w rest) e r =
-        let p = set-only (drop i line) w rest e in
-        let b = behind line (set_text w) rest i p.0 in
-        let x : s.bits ≡ w = ap (λ (r : RoleSet). r.bits) (cc) in
-        let y : n ≡ length line - length rest = cc in
-        record { reads = rw (x, y, b.0) e; inside = rw y b.1 }
-    go bad e r = let z : ◌≡◌ {A = ℕ} 0 1 = cc in absurd (omega arith)
+pub set-read : (line : List ℕ) (i : ℕ) (s : RoleSet) (n : ℕ) → Some (s, n) ≡ set_field line (read_set (drop i line)) → SetThere line i s n
+set-read line i s n q =
+    let f = field-there (λ v. record { bits = v }) line (read_set (drop i line)) s n q in
+    let p = set-only (drop i line) f.value f.rest f.was in
+    let b = behind line (set_text f.value) f.rest i p.0 in
+    let x : s.bits ≡ f.value = ap (λ (r : RoleSet). r.bits) f.made in
+    let y : drop n line ≡ f.rest = ap (λ (k : ℕ). drop k line) f.place ∙ b.0 in
+    record { reads = f.was ∙ sym (ap (λ (w : ℕ). found w (drop n line)) x ∙ ap (found f.value) y); inside = omega arith }
 
 -- ---- along the roles of a set
 

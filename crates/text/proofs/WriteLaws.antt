@@ -1,27 +1,20 @@
 -- Texts written one behind the other, and those of numbers and sets so written. Assumes nothing.
 use mathlib.Core.Path.{◌≡◌, refl, sym, ap, ◌∙◌}
-use mathlib.Core.Bool.{Bool, true, false, cond}
-use mathlib.Core.List.{List, [], ◌∷◌, ◌++◌}
-use mathlib.Core.Logic.{◌↔◌, by_cases}
-use Prim.Native.Nat.{ℕ, zero, suc, ◌+◌, ◌-◌, ◌/◌, ◌%◌, ◌^◌, ◌≤◌, ◌<◌}
-use native.Mathlib.Nat.{zero-add, add-zero, add_assoc, add-suc, suc-add}
-use native.Mathlib.Numerals.{add-one}
-use native.Mathlib.Decide.{dec_lt}
+use mathlib.Core.Bool.{Bool, true, false}
+use mathlib.Core.List.{List, [], ◌∷◌, ◌++◌, append_assoc}
+use Prim.Native.Nat.{ℕ, suc, ◌+◌, ◌-◌, ◌/◌, ◌%◌, ◌≤◌, ◌<◌}
+use native.Mathlib.Nat.{zero-add, add-zero, add-suc, suc-add}
 use native.Mathlib.Omega.{arith}
-use borrow.Author.Tests.{eq-eqb, ne_eqb}
-use lib.Dec.{not_T}
-use lib.ListN.{length, take, drop, get_or, set, length-append, drop_of_length-le}
-use lib.Seq.{sets, length-sets, sets-eq, take-append_seam, drop-append_seam}
-use Rattle.roles.specs.Sets.{has, In, most_roles, all_below, below64, outside}
-use Rattle.roles.proofs.Tests.{T_true, T_false}
-use Rattle.roles.proofs.Member.{in-empty, in-all_below, in-below64}
-use Rattle.roles.proofs.Naming.{outside-le, outside-names}
+use borrow.Rule.Slice.PartMut.{put_mid}
+use lib.Dec.{eqb}
+use lib.ListN.{length, take, drop, set, length-append}
+use lib.Seq.{sets, length-sets, sets-eq, take-append_seam, drop-append_seam, drop-drop}
+use Rattle.roles.specs.Sets.{roles_of}
 use Rattle.text.specs.Ascii.{digit_zero, comma, minus}
 use Rattle.text.specs.Number.{number_text}
-use Rattle.text.specs.Set.{roles_from, roles_of, role_text, roles_text, set_text}
+use Rattle.text.specs.Set.{role_text, roles_text, set_text}
 use Rattle.text.specs.Write.{Wrote}
 use Rattle.text.proofs.NumberLaws.{text-small, text-step}
-use Rattle.text.proofs.Walks.{next-cons}
 
 -- ---- one text behind the other
 
@@ -94,21 +87,13 @@ module _ {d : List ℕ} {at : ℕ} {t e : List ℕ} {p : ℕ} where
   pub left-room : {x : List ℕ} (v u : List ℕ) → Left d at t e p x → x ≡ v ++ u → at + length t ≤ length d → p + length v ≤ length e
   left-room {x} v u l c h = let n = l.next in let m = ap length c ∙ length-append v u in let k = l.same in omega arith
 
--- ---- bytes, one after the other
+-- ---- bytes, copied
 
-module _ (d : List ℕ) (at : ℕ) (t : List ℕ) where
-  pub bytes-start : Left d at t d (at + 0) (drop 0 t)
-  bytes-start = rw (add-zero at) (left-start d at t)
-
-  module _ (e : List ℕ) (i : ℕ) (l : Left d at t e (at + i) (drop i t)) where
-    pub bytes-room : i < length t → at + length t ≤ length d → at + i < length e
-    bytes-room h r = let k = left-room (get_or t i 0 ∷ []) (drop (i + 1) t) l (next-cons t i h) r in omega arith
-
-    pub bytes_next : i < length t → Left d at t (set e (at + i) (get_or t i 0)) (at + (i + 1)) (drop (i + 1) t)
-    bytes_next h = rw (← add_assoc at i 1) (left-next l (next-cons t i h) (wrote_one e (at + i) (get_or t i 0)))
-
-    pub bytes-end : length t ≤ i → Wrote d at t e (at + i)
-    bytes-end h = left_end (rw (drop_of_length-le t {i = i} h) at l)
+-- bytes that stand for the part of d from the place `at` on
+pub wrote_part : (d t e : List ℕ) (at : ℕ) → at + length t ≤ length d → e ≡ t → Wrote d at t (put_mid at (at + length t - at) d e) (at + length t)
+wrote_part d t e at h same =
+    let n : at + length t - at ≡ length t = omega arith in
+    record { bytes = rw (sets-eq t d at h, n, same, append_assoc, drop-drop) refl; next = refl }
 
 -- ---- a number
 
@@ -134,82 +119,18 @@ pub first-text : (later : Bool) (r : ℕ) → later ≡ false → role_text late
 unfolding role_text
 first-text later r e = rw e refl
 
-pub empty-text : (s : ℕ) → s ≡ 0 → set_text s ≡ minus ∷ []
+pub empty-text : (s : ℕ) → eqb s 0 ≡ true → set_text s ≡ minus ∷ []
 unfolding set_text
-empty-text s e = rw (eq-eqb s 0 e) refl
+empty-text s e = rw e refl
 
--- the roles from r on, and their text
-abbrev pub rest_roles : ℕ → ℕ → List ℕ
-rest_roles r s = roles_from (most_roles - r) r s
+pub full-text : (s : ℕ) {l : List ℕ} → eqb s 0 ≡ false → l ≡ roles_of s → set_text s ≡ roles_text false l
+unfolding set_text
+full-text s n e = rw (n, e) refl
 
-abbrev pub rest_text : Bool → ℕ → ℕ → List ℕ
-rest_text later r s = roles_text later (rest_roles r s)
-
-pub rest-start : (s : ℕ) → (s ≡ 0 → ⊥) → set_text s ≡ rest_text false 0 s
-unfolding set_text roles_of
-rest-start s n = rw (ne_eqb s 0 n) refl
-
-pub roles-start : (s : ℕ) → roles_of s ≡ rest_roles 0 s
-unfolding roles_of
-roles-start s = refl
-
-roles-at : (r s : ℕ) → r < most_roles → rest_roles r s ≡ cond (has s r) (r ∷ rest_roles (r + 1) s) (rest_roles (r + 1) s)
-unfolding roles_from
-roles-at r s h = let e : most_roles - r ≡ suc (most_roles - (r + 1)) = omega arith in rw (e, add-one) refl
-
-pub roles-has : (r s : ℕ) → r < most_roles → has s r ≡ true → rest_roles r s ≡ r ∷ rest_roles (r + 1) s
-roles-has r s h e = rw (roles-at r s h, e) refl
-
-roles-lacks : (r s : ℕ) → r < most_roles → has s r ≡ false → rest_roles r s ≡ rest_roles (r + 1) s
-roles-lacks r s h e = rw (roles-at r s h, e) refl
-
-pub roles-end : (r s : ℕ) → most_roles ≤ r → rest_roles r s ≡ []
-unfolding roles_from
-roles-end r s h = let e : most_roles - r ≡ 0 = omega arith in rw e refl
-
-pub rest_has : (later : Bool) (r s : ℕ) → r < most_roles → has s r ≡ true → rest_text later r s ≡ role_text later r ++ rest_text true (r + 1) s
+pub next-text : (later : Bool) {r : ℕ} {l m : List ℕ} → l ≡ r ∷ m → roles_text later l ≡ role_text later r ++ roles_text true m
 unfolding roles_text
-rest_has later r s h e = ap (roles_text later) (roles-has r s h e)
+next-text later e = rw e refl
 
-pub rest_end : (later : Bool) (r s : ℕ) → most_roles ≤ r → rest_text later r s ≡ []
+pub no-text : (later : Bool) {l : List ℕ} → l ≡ [] → roles_text later l ≡ []
 unfolding roles_text
-rest_end later r s h = ap (roles_text later) (roles-end r s h)
-
--- from one role of s to the next: t has the roles below r, and no other
-module _ (r s t : ℕ) (fits : s < 2 ^ most_roles) (low : r ≤ most_roles) (below : (q : ℕ) → q < most_roles → In t q ↔ (q < r)) where
-  pub next-above : r ≤ outside s t
-  next-above = by_cases (dec_lt (outside s t) r)
-      (λ h. absurd (((outside-names s t fits).named (λ e. omega arith)).1 ((below (outside s t) (omega arith)).1 h)))
-      (λ h. omega arith)
-
-  none_between : (q : ℕ) → r ≤ q → q < outside s t → has s q ≡ false
-  none_between q h k =
-      T_false (has s q) (not_T (has s q) (λ i.
-      let m = outside-le s t in
-      let b : q < r = (below q (omega arith)).0 ((outside-names s t fits).first q k i) in omega arith))
-
-  roles-up : (k : ℕ) → r + k ≤ outside s t → rest_roles r s ≡ rest_roles (r + k) s
-  roles-up zero h = ap (λ (i : ℕ). rest_roles i s) (sym (add-zero r))
-  roles-up (suc k) h =
-      let m = outside-le s t in
-      let e : r + k + 1 ≡ r + suc k = omega arith in
-      roles-up k (omega arith) ∙ roles-lacks (r + k) s (omega arith) (none_between (r + k) (omega arith) (omega arith)) ∙ ap (λ (i : ℕ). rest_roles i s) e
-
-  pub roles-next : rest_roles r s ≡ rest_roles (outside s t) s
-  roles-next =
-      let h = next-above in
-      let e : r + (outside s t - r) ≡ outside s t = omega arith in
-      roles-up (outside s t - r) (omega arith) ∙ ap (λ (i : ℕ). rest_roles i s) e
-
-  pub rest-next : (later : Bool) → rest_text later r s ≡ rest_text later (outside s t) s
-  rest-next later = ap (roles_text later) roles-next
-
-pub next-in : (s t : ℕ) → s < 2 ^ most_roles → outside s t < most_roles → has s (outside s t) ≡ true
-next-in s t fits h = T_true (has s (outside s t)) ((outside-names s t fits).named (λ e. omega arith)).0
-
--- below the first role there is none, and behind a role those up to it
-pub none_below : (q : ℕ) → q < most_roles → In 0 q ↔ (q < 0)
-none_below q h = ((λ i. absurd (in-empty q i)), (λ k. absurd (omega arith)))
-
-pub those-below : (r q : ℕ) → q < most_roles → In (below64 (all_below (r + 1))) q ↔ (q < r + 1)
-those-below r q h = ((λ i. (in-all_below (r + 1) q).0 ((in-below64 (all_below (r + 1)) q).0 i).0), (λ k. (in-below64 (all_below (r + 1)) q).1 ((in-all_below (r + 1) q).1 k, h)))
+no-text later e = rw e refl

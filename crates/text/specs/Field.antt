@@ -1,17 +1,17 @@
--- What a reading gives, as the enums of the code have it: the place behind the text stands for the bytes behind it.
---     number_field line g   g, found in the line, as a `NumberField`
---     set_field line g      the same as a `SetField`
-use Rattle.std.specs.Prelude.{List, ℕ, ◌-◌, length}
+-- What a reading gives, as the code has it: the value, and the place behind its text, which stands for the bytes behind it.
+--     field make line g     g, found in the line, as an `Option`; `make` makes the code's value of that of g
+--     number_field line g   the same of a number
+--     set_field line g      the same of a set
+use Rattle.std.specs.Prelude.{List, ℕ, ◌-◌, length, Option, Some, None}
+use Rattle.roles.specs.declared.RoleSet.{RoleSet}
 use Rattle.text.specs.Number.{Got, found, bad}
-use Rattle.text.specs.declared.NumberField.{NumberField}
-use Rattle.text.specs.declared.NumberField.TheVariants as number
-use Rattle.text.specs.declared.SetField.{SetField}
-use Rattle.text.specs.declared.SetField.TheVariants as set
 
-abbrev pub number_field : List ℕ → Got → NumberField
-number_field line (found v rest) = number.Read v (length line - length rest)
-number_field line bad = number.Bad
+abbrev pub field : {A : Type 0} → (ℕ → A) → List ℕ → Got → Option (A × ℕ)
+field make line (found v rest) = Some (make v, length line - length rest)
+field make line bad = None
 
-abbrev pub set_field : List ℕ → Got → SetField
-set_field line (found s rest) = set.Read (record { bits = s }) (length line - length rest)
-set_field line bad = set.Bad
+abbrev pub number_field : List ℕ → Got → Option (ℕ × ℕ)
+number_field line g = field (λ v. v) line g
+
+abbrev pub set_field : List ℕ → Got → Option (RoleSet × ℕ)
+set_field line g = field (λ s. record { bits = s }) line g

@@ -4,4 +4,5 @@ pub mod Number
 pub mod Set
 pub mod Field
 pub mod Write
+pub mod Page
 pub mod Lines

@@ -1,6 +1,4 @@
 -- Role sets as text: `-` for the empty one, or roles strictly ascending, parted by commas.
---     roles_from k r s        the roles of s among the k from r on, ascending
---     roles_of s              the roles of s
 --     role_text later r       the role r, with a comma before it where others stand before it
 --     roles_text later l      the roles of l, the first one as `role_text` has it
 --     set_text s              the text of s
@@ -9,16 +7,9 @@
 --     read_set t              the set that t begins with
 --     Ends t                  neither a digit nor a comma comes next, so a set ends before t
 use Rattle.std.specs.Prelude.{◌≡◌, Bool, true, false, cond, List, [], ◌∷◌, ◌++◌, ℕ, zero, suc, ltb, eqb, drop}
-use Rattle.roles.specs.Sets.{most_roles, last_role, has, single, joined}
+use Rattle.roles.specs.Sets.{most_roles, last_role, single, joined, roles_of}
 use Rattle.text.specs.Ascii.{comma, minus}
 use Rattle.text.specs.Number.{number_text, Got, found, bad, digit_next, next_is, read_number}
-
-unfoldable pub roles_from : ℕ → ℕ → ℕ → List ℕ
-roles_from zero r s = []
-roles_from (suc k) r s = cond (has s r) (r ∷ roles_from k (suc r) s) (roles_from k (suc r) s)
-
-unfoldable pub roles_of : ℕ → List ℕ
-roles_of s = roles_from most_roles 0 s
 
 unfoldable pub role_text : Bool → ℕ → List ℕ
 role_text later r = cond later (comma ∷ number_text r) (number_text r)

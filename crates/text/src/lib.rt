@@ -2,7 +2,7 @@
 // ends.
 #![tactic(auto)]
 
-ghost use Rattle.std.specs.Prelude.{◌≡◌, ◌∷◌, ◌+◌, ◌^◌, ◌≤◌, ◌<◌, length, drop};
+ghost use Rattle.std.specs.Prelude.{◌≡◌, ◌∷◌, [], ◌+◌, ◌^◌, ◌≤◌, ◌<◌, List, ℕ, length, drop};
 ghost use Rattle.roles.specs.Sets.{most_roles};
 ghost use Rattle.text.specs.Ascii.{space};
 ghost use Rattle.text.specs.Number.{number_text, digit_next, next_is, read_more, read_number};
@@ -10,129 +10,91 @@ ghost use Rattle.text.specs.Set.{role_text, set_text, read_roles, read_set};
 ghost use Rattle.text.specs.Field.{number_field, set_field};
 ghost use Rattle.text.specs.Lines.{before_lf};
 ghost use Rattle.text.specs.Write.{Wrote};
+ghost use Rattle.text.specs.Page.{Room, Adds};
 
 use roles::{LAST_ROLE, RoleSet};
 
-// What a number's field reads as: its value and the place behind it.
-#[derive(Clone, Copy)]
-pub enum NumberField {
-    Read { value: u64, next: usize },
-    Bad,
-}
-
-// What a set's field reads as: the set and the place behind it.
-#[derive(Clone, Copy)]
-pub enum SetField {
-    Read { set: RoleSet, next: usize },
-    Bad,
-}
+// Readers take the line and a place, and give the place behind what they read. A struct of the two that a reader moves on would be no
+// plainer: where a field does not read there is no place behind it, and nothing has moved.
 
 // Whether the byte b stands at the place `at`.
 pub fn byte_at(line: &[u8], at: usize, b: u8) -> bool
     ensures { result ≡ next_is b (drop at line.now) }
 {
-    if at < line.len() {
-        line[at] == b
-    } else {
-        false
-    }
+    line.get(at) == Some(&b)
 }
 
 // Whether a digit stands at the place `at`.
 fn digit_at(line: &[u8], at: usize) -> bool
     ensures { result ≡ digit_next (drop at line.now) }
 {
-    if at < line.len() {
-        match line[at] {
-            b'0'..=b'9' => true,
-            _ => false,
-        }
-    } else {
-        false
-    }
+    matches!(line.get(at), Some(b'0'..=b'9'))
 }
 
-// The digits from the place `at` on, as a number of at most the limit.
-fn read_more(line: &[u8], at: usize, limit: u64) -> NumberField
+// The digits from the place `at` on, as a number of at most the limit, and the place behind them.
+fn read_more(line: &[u8], at: usize, limit: u64) -> Option<(u64, usize)>
     requires { (at ≤ length line.now) × (limit < 2 ^ 32) }
     ensures { result ≡ number_field line.now (read_more limit 0 (drop at line.now)) }
 {
-    let mut value: u64 = 0;
-    let mut i = at;
-    while i < line.len() {
-        let c = line[i];
+    let mut value = 0;
+    for (i, c) in line[at..].iter().enumerate() {
         match c {
-            b'0'..=b'9' => {
-                let grown = value * 10 + (c - b'0') as u64;
-                if limit < grown {
-                    return NumberField::Bad;
-                }
-                value = grown;
-                i += 1;
-            }
-            _ => {
-                return NumberField::Read { value, next: i };
-            }
+            b'0'..=b'9' => value = value * 10 + u64::from(c - b'0'),
+            _ => return Some((value, at + i)),
+        }
+        if limit < value {
+            return None;
         }
     }
-    NumberField::Read { value, next: i }
+    Some((value, line.len()))
 }
 
-// The number at the place `at`: decimal, without leading zeros, at most the limit.
-pub fn read_number(line: &[u8], at: usize, limit: u64) -> NumberField
+// The number at the place `at`: decimal, without leading zeros, at most the limit; and the place behind it.
+pub fn read_number(line: &[u8], at: usize, limit: u64) -> Option<(u64, usize)>
     requires { limit < 2 ^ 32 }
     ensures { result ≡ number_field line.now (read_number limit (drop at line.now)) }
 {
-    if at < line.len() {
-        match line[at] {
-            b'0' => {
-                let next = at + 1;
-                if digit_at(line, next) {
-                    NumberField::Bad
-                } else {
-                    NumberField::Read { value: 0, next }
-                }
+    match line.get(at)? {
+        b'0' => {
+            if digit_at(line, at + 1) {
+                None
+            } else {
+                Some((0, at + 1))
             }
-            b'1'..=b'9' => read_more(line, at, limit),
-            _ => NumberField::Bad,
         }
-    } else {
-        NumberField::Bad
+        b'1'..=b'9' => read_more(line, at, limit),
+        _ => None,
     }
 }
 
-// The roles at the place `at`: strictly ascending, parted by commas.
-fn read_roles(line: &[u8], at: usize) -> SetField
+// The roles at the place `at`: strictly ascending, parted by commas; and the place behind them. Each turn goes on behind what the
+// last one read, so no index is counted.
+fn read_roles(line: &[u8], at: usize) -> Option<(RoleSet, usize)>
     ensures { result ≡ set_field line.now (read_roles most_roles 0 0 (drop at line.now)) }
 {
     let mut set = RoleSet::EMPTY;
     let mut low: u64 = 0;
     let mut i = at;
     loop {
-        let NumberField::Read { value, next } = read_number(line, i, LAST_ROLE) else {
-            return SetField::Bad;
-        };
-        if value < low {
-            return SetField::Bad;
+        let (role, next) = read_number(line, i, LAST_ROLE)?;
+        if role < low {
+            return None;
         }
-        set = set.joined(RoleSet::single(value));
-        low = value + 1;
+        set = set.joined(RoleSet::single(role));
+        low = role + 1;
         if !byte_at(line, next, b',') {
-            return SetField::Read { set, next };
+            return Some((set, next));
         }
         i = next + 1;
     }
 }
 
-// The set at the place `at`: `-` for the empty one, or roles.
-pub fn read_set(line: &[u8], at: usize) -> SetField
+// The set at the place `at`: `-` for the empty one, or roles; and the place behind it.
+pub fn read_set(line: &[u8], at: usize) -> Option<(RoleSet, usize)>
     ensures { result ≡ set_field line.now (read_set (drop at line.now)) }
 {
     if byte_at(line, at, b'-') {
-        return SetField::Read {
-            set: RoleSet::EMPTY,
-            next: at + 1,
-        };
+        return Some((RoleSet::EMPTY, at + 1));
     }
     read_roles(line, at)
 }
@@ -141,31 +103,13 @@ pub fn read_set(line: &[u8], at: usize) -> SetField
 pub fn line_end(line: &[u8], at: usize) -> usize
     ensures { result ≡ at + before_lf (drop at line.now) }
 {
-    let mut i = at;
-    while i < line.len() {
-        if line[i] == b'\n' {
-            return i;
-        }
-        i += 1;
-    }
-    i
+    let rest = line.get(at..).unwrap_or(&[]);
+    at + rest.iter().position(|b| *b == b'\n').unwrap_or(rest.len())
 }
 
-// The bytes t, from the place `at` on: the place behind them.
-pub fn write_bytes(out: &mut [u8], at: usize, t: &[u8]) -> usize
-    requires { at + length t.now ≤ length out.old }
-    ensures { Wrote out.old at t.now out.new result }
-{
-    let mut i = 0;
-    while i < t.len() {
-        out[at + i] = t[i];
-        i += 1;
-    }
-    at + i
-}
-
-// The text of v, from the place `at` on: the place behind it.
-pub fn write_number(out: &mut [u8], at: usize, v: u64) -> usize
+// The text of v, from the place `at` on: the place behind it. Not a method of a page, whose place would stand in memory from digit to
+// digit: `print_row` would take 4,523 instructions above the check in place of 3,389.
+fn write_number(out: &mut [u8], at: usize, v: u64) -> usize
     requires { at + length (number_text v) ≤ length out.old }
     ensures { Wrote out.old at (number_text v) out.new result }
 {
@@ -178,52 +122,115 @@ pub fn write_number(out: &mut [u8], at: usize, v: u64) -> usize
     last + 1
 }
 
-// One role of a set, behind a comma where others stand before it.
-fn write_role(out: &mut [u8], at: usize, r: u64, later: bool) -> usize
-    requires { at + length (role_text later r) ≤ length out.old }
-    ensures { Wrote out.old at (role_text later r) out.new result }
-{
-    if later {
-        out[at] = b',';
-        return write_number(out, at + 1, r);
-    }
-    write_number(out, at, r)
+// A lent buffer, and the place up to which it is written.
+#[derive(Drop)]
+pub struct Page<'a> {
+    pub out: &'a mut [u8],
+    pub at: usize,
 }
 
-// The text of a set, from the place `at` on: the place behind it.
-pub fn write_set(out: &mut [u8], at: usize, s: RoleSet) -> usize
-    requires { at + length (set_text s.bits) ≤ length out.old }
-    ensures { Wrote out.old at (set_text s.bits) out.new result }
-{
-    if s.bits == 0 {
-        out[at] = b'-';
-        return at + 1;
+impl<'a> Page<'a> {
+    pub fn new(out: &'a mut [u8], at: usize) -> Page<'a>
+        ensures same_buffer { result.out.ghost_name ≡ out.entry.ghost_name }
+        ensures bytes { result.out.now ≡ out.old }
+        ensures start { result.at ≡ at }
+    {
+        Page { out, at }
     }
-    let mut place = at;
-    let mut later = false;
-    let mut r = s.outside(RoleSet::EMPTY);
-    while r <= LAST_ROLE {
-        place = write_role(out, place, r, later);
-        later = true;
-        r = s.outside(RoleSet::all_below(r + 1));
+
+    pub fn push(&mut self, b: u8)
+        requires { Room self.old (b ∷ []) }
+        ensures { Adds self.old (b ∷ []) self.new }
+    {
+        self.out[self.at] = b;
+        self.at += 1;
     }
-    place
+
+    pub fn push_bytes(&mut self, t: &[u8])
+        requires { Room self.old t.now }
+        ensures { Adds self.old t.now self.new }
+    {
+        let next = self.at + t.len();
+        self.out[self.at..next].copy_from_slice(t);
+        self.at = next;
+    }
+
+    // The text of v.
+    pub fn number(&mut self, v: u64)
+        requires { Room self.old (number_text v) }
+        ensures { Adds self.old (number_text v) self.new }
+    {
+        self.at = write_number(self.out, self.at, v);
+    }
+
+    // One role of a set, behind a comma where others stand before it.
+    fn role(&mut self, r: u64, later: bool)
+        requires { Room self.old (role_text later r) }
+        ensures { Adds self.old (role_text later r) self.new }
+    {
+        if later {
+            self.push(b',');
+        }
+        self.number(r);
+    }
+
+    // The text of a set.
+    pub fn set(&mut self, s: RoleSet)
+        requires { Room self.old (set_text s.bits) }
+        ensures { Adds self.old (set_text s.bits) self.new }
+    {
+        if s.is_empty() {
+            self.push(b'-');
+            return;
+        }
+        let mut later = false;
+        for role in s.roles() {
+            self.role(role, later);
+            later = true;
+        }
+    }
+
+    // The text of a value, with a space before it.
+    pub fn field<T: Text>(&mut self, value: T)
+        requires { Room self.old (space ∷ T.text value) }
+        ensures { Adds self.old (space ∷ T.text value) self.new }
+    {
+        self.push(b' ');
+        value.write(self);
+    }
 }
 
-// A number's field: the text of v with a space before it.
-pub fn write_number_field(out: &mut [u8], at: usize, v: u64) -> usize
-    requires { at + length (space ∷ number_text v) ≤ length out.old }
-    ensures { Wrote out.old at (space ∷ number_text v) out.new result }
-{
-    out[at] = b' ';
-    write_number(out, at + 1, v)
+// A value that is written as a text. Not by `Display` and `write!`: those promise the bytes only where they answer `Ok`, and not that
+// they answer it where there is room.
+pub trait Text {
+    ghost text: { Self → List ℕ };
+
+    // The text of this value.
+    fn write(self, page: &mut Page<'_>)
+        requires { Room page.old (text self) }
+        ensures { Adds page.old (text self) page.new };
 }
 
-// A set's field: the text of s with a space before it.
-pub fn write_set_field(out: &mut [u8], at: usize, s: RoleSet) -> usize
-    requires { at + length (space ∷ set_text s.bits) ≤ length out.old }
-    ensures { Wrote out.old at (space ∷ set_text s.bits) out.new result }
-{
-    out[at] = b' ';
-    write_set(out, at + 1, s)
+impl Text for u64 {
+    ghost text = { number_text };
+
+    fn write(self, page: &mut Page<'_>) {
+        page.number(self);
+    }
+}
+
+impl Text for u32 {
+    ghost text = { number_text };
+
+    fn write(self, page: &mut Page<'_>) {
+        page.number(u64::from(self));
+    }
+}
+
+impl Text for RoleSet {
+    ghost text = { λ s. set_text s.bits };
+
+    fn write(self, page: &mut Page<'_>) {
+        page.set(self);
+    }
 }

@@ -1,54 +1,41 @@
-// The walker: it keeps the lent area and the number of the next row, and hands out the rows one after another. The
-// functions over it are thin; the work is in functions on the slice and the number.
+// The walker: it keeps the lent area and the number of the next row, and hands out the rows one after another, as an
+// iterator. What it does is thin; the work is in functions on the slice and the number.
 #![tactic(auto)]
 
 ghost use Rattle.std.specs.Prelude.{◌≡◌};
-ghost use Rattle.walker.specs.Walk.{Walkable, begun, started, go_on_at, resumed, handed};
+ghost use Rattle.walker.specs.Walk.{Walkable, begun, started, go_on_at, resumed, handed, Moves, rows_ahead};
 
 use area::MOST_ROWS;
 use area::check::check;
-use rows::{Row, blank};
+use rows::Row;
 use table::{permission_at, row_at, rows_used};
 
+// `Walkable` is no ghost field of it: `started`, `resumed` and `moved` say which walker there is, and would each need its proof inside.
 #[derive(Clone, Copy)]
 pub struct Walker<'a> {
     pub area: &'a [u8],
     pub next: usize,
 }
 
-// A row with its permission and the number of the row after it; or none, and the number stays.
+// A row with its permission.
 #[derive(Clone, Copy)]
 pub struct Handed {
-    pub some: bool,
     pub permission: u32,
     pub row: Row,
-    pub next: usize,
 }
 
-// The answer to a start, by its number, and the number of the first row: of a bad area one that no row ever has.
-#[derive(Clone, Copy)]
-struct Begun {
-    answer: u32,
-    row: usize,
-}
+// A bad area is not walked.
+#[derive(Clone, Copy, Debug)]
+pub struct BadArea;
 
-// The answer to a start, and the walker; on a bad area it hands out no rows.
-#[derive(Clone, Copy)]
-pub struct Started<'a> {
-    pub answer: u32,
-    pub walker: Walker<'a>,
-}
-
-fn begin(a: &[u8]) -> Begun
+// The number of the first row.
+fn begin(a: &[u8]) -> Result<usize, BadArea>
     ensures { result ≡ begun a.now }
 {
     if !check(a) {
-        return Begun {
-            answer: 1,
-            row: MOST_ROWS,
-        };
+        return Err(BadArea);
     }
-    Begun { answer: 0, row: 0 }
+    Ok(0)
 }
 
 // The number that a walk goes on with: of a bad area one that no row ever has.
@@ -61,58 +48,56 @@ fn go_on_at(a: &[u8], next: usize) -> usize
     next
 }
 
-// The row of a number, and the number of the next.
-fn hand(a: &[u8], next: usize) -> Handed
+// The row of a number.
+fn hand(a: &[u8], next: usize) -> Option<Handed>
     requires { Walkable a.now next }
     ensures { result ≡ handed a.now next }
 {
-    if next < MOST_ROWS {
-        if next < rows_used(a) {
-            return Handed {
-                some: true,
-                permission: permission_at(a, next) as u32,
-                row: row_at(a, next),
-                next: next + 1,
-            };
-        }
+    if next < MOST_ROWS && next < rows_used(a) {
+        return Some(Handed {
+            permission: permission_at(a, next) as u32,
+            row: row_at(a, next),
+        });
     }
-    Handed {
-        some: false,
-        permission: 0,
-        row: blank(),
-        next,
-    }
+    None
 }
 
-pub fn start<'a>(area: &'a [u8]) -> Started<'a>
+pub fn start(area: &[u8]) -> Result<Walker<'_>, BadArea>
     ensures { result ≡ started area.entry }
 {
-    let b = begin(area);
-    Started {
-        answer: b.answer,
-        walker: Walker { area, next: b.row },
-    }
+    let next = begin(area)?;
+    Ok(Walker { area, next })
 }
 
 // A walker at a number that one had come to. The area is checked anew, since nobody kept it in between.
-pub fn resume<'a>(area: &'a [u8], next: usize) -> Walker<'a>
+pub fn resume(area: &[u8], next: usize) -> Walker<'_>
     ensures { result ≡ resumed area.entry next }
 {
     let at = go_on_at(area, next);
     Walker { area, next: at }
 }
 
-pub fn hand_out<'a>(w: Walker<'a>) -> Handed
-    requires { Walkable w.area.now w.next }
-    ensures { result ≡ handed w.entry.area.now w.entry.next }
-{
-    hand(w.area, w.next)
+impl Iterator for Walker<'_> {
+    type Item = Handed;
+
+    ghost can_next = { λ w. Walkable w.area.now w.next };
+
+    ghost next_gives = { Moves };
+
+    ghost remaining = { rows_ahead };
+
+    // After the last row there is none, and the number stays.
+    fn next(&mut self) -> Option<Handed> {
+        let handed = hand(self.area, self.next)?;
+        self.next += 1;
+        Some(handed)
+    }
 }
 
 // The row of a number, by a walker that stands there.
-pub fn row_of(area: &[u8], row: usize) -> Handed
+pub fn row_of(area: &[u8], row: usize) -> Option<Handed>
     requires { Walkable area.now row }
     ensures { result ≡ handed area.now row }
 {
-    hand_out(Walker { area, next: row })
+    Walker { area, next: row }.next()
 }

@@ -6,13 +6,12 @@ use Prim.Native.Nat.{ℕ, zero, suc, ◌+◌, ◌≤◌, ◌<◌}
 use native.Mathlib.Omega.{arith}
 use lib.Dec.{T, eqb}
 use lib.ListN.{get_or, take, drop}
-use Rattle.roles.specs.Sets.{most_roles, has}
+use Rattle.roles.specs.Sets.{most_roles, has, roles_from, roles_of}
 use Rattle.refusals.specs.Refusals.{Refusal, refusal, refuse}
 use Rattle.written.specs.Print.{Print, kept, shown}
 use Rattle.meaning.specs.Lists.{keep}
 use Rattle.meaning.specs.Rows.{Row, decide}
 use Rattle.calls.specs.Calls.{look_of}
-use Rattle.text.specs.Set.{roles_from, roles_of}
 use Rattle.names.specs.Names.{good_table, name_of}
 use Rattle.names.proofs.Theorems.{naming}
 use Rattle.sheet.specs.Text.{alone, larger, roles_of_all, name_text, names_text, parted_text, sheet_lines}

@@ -3,27 +3,26 @@
 // alone the system is met, and that the steps here go on with what the ones before gave.
 #![tactic(auto)]
 
-ghost use Rattle.std.specs.Prelude.{◌≡◌, ◌≤◌, length, take};
+ghost use Rattle.std.specs.Prelude.{◌≡◌, ◌≤◌, length, take, IfSome};
 ghost use Rattle.io.specs.Counts.{IsPrefixLen};
-ghost use Rattle.files.specs.Messages.{Tellable};
+ghost use Rattle.files.specs.Loading.{Filled};
 ghost use Rattle.text.specs.Field.{number_field, set_field};
 ghost use Rattle.listing.specs.Listing.{most_table};
+ghost use Rattle.written.specs.Result.{number_of};
 ghost use Rattle.wall.specs.Asked.{Chosen};
 ghost use Rattle.wall.specs.Standard.{standard_table};
-ghost use Rattle.wall.specs.Shown.{permission_in, session_in, shown_of, Shows, Refuses};
+ghost use Rattle.wall.specs.Shown.{if_whole, permission_in, session_in, shown_of, Shows, Refuses};
 
-use area::AREA_BYTES;
-use files::outside::{argument, argument_count, load, read_input, say};
-use files::{MOST_PATH, tell, tell_bad_area, tell_refused};
+use files::outside::{Loaded, argument, argument_count, read_input, say};
+use files::{LOAD_BYTES, MOST_PATH, Told, load_or_tell, tell, tell_bad_area, tell_refused};
 use listing::{MOST_TABLE, make_table};
 use meaning::LAST_PERMISSION;
 use names::{CONTENTS_BYTES, MOST_NAME};
+use roles::RoleSet;
 use sheet::sheet;
 use stream::outside::write_first;
-use text::{NumberField, SetField, read_number, read_set, write_number};
-
-// One byte more than an area has, so that a longer file is seen.
-const LOAD_BYTES: usize = AREA_BYTES + 1;
+use text::{Page, read_number, read_set};
+use written::Refusal;
 
 // So many bytes of a name table can be reached: a start has 16 bits, and a name 32 bytes.
 const TABLE_BYTES: usize = 65535 + MOST_NAME;
@@ -65,30 +64,31 @@ fn asked_for(count: usize, word: &[u8]) -> Asked
 
 // ---- the arguments of a sheet
 
-// The permission that an argument is.
-fn read_permission(text: &[u8]) -> NumberField
-    ensures { result ≡ number_field text.now (permission_in text.now) }
+// What was read of a text, if nothing stands behind it.
+fn whole<T: Copy>(read: Option<(T, usize)>, text: &[u8]) -> Option<(T, usize)>
+    ensures { result ≡ if_whole (length text.now) read }
 {
-    let NumberField::Read { value, next } = read_number(text, 0, LAST_PERMISSION) else {
-        return NumberField::Bad;
+    let Some((_, next)) = read else {
+        return None;
     };
     if next < text.len() {
-        return NumberField::Bad;
+        return None;
     }
-    NumberField::Read { value, next }
+    read
+}
+
+// The permission that an argument is.
+fn read_permission(text: &[u8]) -> Option<(u64, usize)>
+    ensures { result ≡ number_field text.now (permission_in text.now) }
+{
+    whole(read_number(text, 0, LAST_PERMISSION), text)
 }
 
 // The role set that an argument is.
-fn read_session(text: &[u8]) -> SetField
+fn read_session(text: &[u8]) -> Option<(RoleSet, usize)>
     ensures { result ≡ set_field text.now (session_in text.now) }
 {
-    let SetField::Read { set, next } = read_set(text, 0) else {
-        return SetField::Bad;
-    };
-    if next < text.len() {
-        return SetField::Bad;
-    }
-    SetField::Read { set, next }
+    whole(read_set(text, 0), text)
 }
 
 // ---- the standard names
@@ -98,7 +98,7 @@ fn standard_table(out: &mut [u8]) -> usize
     requires { most_table ≤ length out.old }
     ensures { IsPrefixLen result out.new × (take result out.new ≡ standard_table) }
 {
-    let listed = make_table(
+    make_table(
         b"0 visitor\n\
           1 operator\n\
           2 fitter\n\
@@ -116,20 +116,21 @@ fn standard_table(out: &mut [u8]) -> usize
           14 auditor\n\
           15 head office\n",
         out,
-    );
-    listed.bytes
+    )
+    .unwrap()
 }
 
 // ---- the sheet
 
-// The answer of the sheet, and how many bytes it has; or the argument that does not read.
+// Why there is no sheet: an argument does not read, or it is refused.
 #[derive(Clone, Copy)]
-enum Shown {
-    Told { answer: u32, bytes: u32 },
+enum NoSheet {
     BadPermission,
     BadSet,
+    Refused(Refusal),
 }
 
+// The sheet for the arguments: how many bytes it has.
 fn show<'a>(
     area: &[u8],
     works: &'a [u8],
@@ -137,51 +138,53 @@ fn show<'a>(
     permission: &[u8],
     set: &[u8],
     out: &mut [u8],
-) -> Shown
+) -> Result<u32, NoSheet>
     requires { standard.now ≡ standard_table }
     ensures { Shows (shown_of area.now works.now permission.now set.now out.old) result out.new }
 {
-    let NumberField::Read { value, .. } = read_permission(permission) else {
-        return Shown::BadPermission;
+    let Some((value, _)) = read_permission(permission) else {
+        return Err(NoSheet::BadPermission);
     };
-    let SetField::Read { set: session, .. } = read_session(set) else {
-        return Shown::BadSet;
+    let Some((session, _)) = read_session(set) else {
+        return Err(NoSheet::BadSet);
     };
-    let w = sheet(area, works, standard, value as u32, session.bits, out);
-    Shown::Told {
-        answer: w.answer,
-        bytes: w.bytes,
-    }
+    sheet(area, works, standard, value as u32, session.bits, out).map_err(NoSheet::Refused)
 }
 
-// ---- messages
+// ---- messages, each with its own words
 
-fn tell_bad_table(rt: &HostRuntime, what: &[u8])
-    requires { Tellable what.now }
-{
+fn tell_bad_table(rt: &HostRuntime, name: Told) {
     tell(
         &rt.stderr(),
         b"wickthrush: 17 bad name table: ",
-        what,
+        name.bytes,
         b"\n",
     );
 }
 
-fn tell_unreadable(rt: &HostRuntime, text: &[u8])
-    requires { Tellable text.now }
-{
-    tell(&rt.stderr(), b"wickthrush: 9 unreadable: ", text, b"\n");
+fn tell_unreadable(rt: &HostRuntime, text: Told) {
+    tell(
+        &rt.stderr(),
+        b"wickthrush: 9 unreadable: ",
+        text.bytes,
+        b"\n",
+    );
 }
 
-// Why there is no sheet, by the number of its answer.
-fn tell_refusal(rt: &HostRuntime, answer: u32, area: &[u8], table: &[u8], set: &[u8])
-    requires { Refuses answer × Tellable area.now × Tellable table.now × Tellable set.now }
+// Why a sheet is refused. With room for it, no other refusal is left.
+fn tell_refusal(rt: &HostRuntime, refusal: Refusal, area: Told, table: Told, set: Told)
+    requires { Refuses (number_of refusal) }
 {
-    match answer {
-        1 => tell_bad_area(&rt.stderr(), area),
-        17 => tell_bad_table(rt, table),
-        3 => say(&rt.stderr(), b"wickthrush: 3 no permission\n"),
-        _ => tell(&rt.stderr(), b"wickthrush: 4 unknown role: ", set, b"\n"),
+    match refusal {
+        Refusal::BadArea => tell_bad_area(&rt.stderr(), area),
+        Refusal::BadNameTable => tell_bad_table(rt, table),
+        Refusal::NoPermission => say(&rt.stderr(), b"wickthrush: 3 no permission\n"),
+        _ => tell(
+            &rt.stderr(),
+            b"wickthrush: 4 unknown role: ",
+            set.bytes,
+            b"\n",
+        ),
     }
 }
 
@@ -189,123 +192,114 @@ fn tell_refusal(rt: &HostRuntime, answer: u32, area: &[u8], table: &[u8], set: &
 fn hand_out(rt: &HostRuntime, n: usize, out: &[u8])
     requires { n ≤ length out.now }
 {
-    let sent = write_first(&mut rt.stdout(), n, out);
-    if !sent.all() {
-        tell_refused(&rt.stderr(), b"standard output", sent.why());
+    if let Err(why) = write_first(&mut rt.stdout(), n, out).taken() {
+        let output = Told {
+            bytes: b"standard output",
+        };
+        tell_refused(&rt.stderr(), output, why);
     }
 }
 
 // ---- files
 
-// How many bytes of a file stand at the start of the buffer, and whether it could be read; what kept it from that is told.
+// A file: its name, and what was loaded of it.
 #[derive(Clone, Copy)]
-struct Fetched {
-    bytes: usize,
-    done: bool,
+struct Stored<'n, 'b> {
+    name: Told<'n>,
+    bytes: &'b [u8],
 }
 
-fn fetch(rt: &HostRuntime, name: &[u8], buf: &mut [u8]) -> Fetched
-    requires { Tellable name.now }
-    ensures { IsPrefixLen result.bytes buf.new }
+// The file of a name; what keeps it from being loaded is told.
+fn fetch(rt: &HostRuntime, name: Told, buf: &mut [u8]) -> Option<Loaded>
+    ensures { IfSome result (λ loaded. Filled loaded buf.new) }
 {
-    if name.len() == 0 {
+    if name.bytes.is_empty() {
         say(
             &rt.stderr(),
             b"wickthrush: the name of a file has 1 to 4095 bytes\n",
         );
-        return Fetched {
-            bytes: 0,
-            done: false,
-        };
+        return None;
     }
-    let loaded = load(rt, name, buf);
-    let done = !(loaded.missing() | loaded.failed());
-    if !done {
-        tell_refused(&rt.stderr(), name, loaded.why());
-    }
-    Fetched {
-        bytes: loaded.bytes(),
-        done,
-    }
+    load_or_tell(rt, &rt.stderr(), name, buf)
 }
 
 // ---- sheet
 
 // The sheet to standard output, or why there is none.
-fn print_sheet(
-    rt: &HostRuntime,
-    name: &[u8],
-    area: &[u8],
-    table: &[u8],
-    works: &[u8],
-    permission: &[u8],
-    set: &[u8],
-)
-    requires { Tellable name.now × Tellable table.now × Tellable permission.now × Tellable set.now }
-{
+fn print_sheet(rt: &HostRuntime, area: Stored, works: Stored, permission: Told, set: Told) {
     let mut standard = [0u8; MOST_TABLE];
     let n = standard_table(&mut standard);
     let mut out = io::large_buffer();
-    match show(area, works, &standard[..n], permission, set, &mut out) {
-        Shown::Told { answer, bytes } => {
-            if answer == 0 {
-                hand_out(rt, bytes as usize, &out);
-            } else {
-                tell_refusal(rt, answer, name, table, set);
-            }
-        }
-        Shown::BadPermission => tell_unreadable(rt, permission),
-        Shown::BadSet => tell_unreadable(rt, set),
+    let standard = &standard[..n];
+    match show(
+        area.bytes,
+        works.bytes,
+        standard,
+        permission.bytes,
+        set.bytes,
+        &mut out,
+    ) {
+        Ok(bytes) => hand_out(rt, bytes as usize, &out),
+        Err(NoSheet::BadPermission) => tell_unreadable(rt, permission),
+        Err(NoSheet::BadSet) => tell_unreadable(rt, set),
+        Err(NoSheet::Refused(refusal)) => tell_refusal(rt, refusal, area.name, works.name, set),
     }
 }
 
 // What was loaded, with the arguments that say what is to be shown of it.
-fn show_loaded(rt: &HostRuntime, name: &[u8], area: &[u8], table: &[u8], works: &[u8])
-    requires { Tellable name.now × Tellable table.now }
-{
+fn show_loaded(rt: &HostRuntime, area: Stored, works: Stored) {
     let mut permission = [0u8; MOST_PATH];
     let p = argument(rt, 3, &mut permission);
     let mut set = [0u8; MOST_PATH];
     let s = argument(rt, 4, &mut set);
-    print_sheet(rt, name, area, table, works, &permission[..p], &set[..s]);
+    let permission = Told {
+        bytes: &permission[..p],
+    };
+    let set = Told { bytes: &set[..s] };
+    print_sheet(rt, area, works, permission, set);
 }
 
 // With the works' own names.
-fn show_named(rt: &HostRuntime, name: &[u8], area: &[u8])
-    requires { Tellable name.now }
-{
+fn show_named(rt: &HostRuntime, area: Stored) {
     let mut table = [0u8; MOST_PATH];
     let t = argument(rt, 5, &mut table);
+    let name = Told { bytes: &table[..t] };
     let mut works = [0u8; TABLE_BYTES];
-    let fetched = fetch(rt, &table[..t], &mut works);
-    if fetched.done {
-        let w = fetched.bytes;
-        show_loaded(rt, name, area, &table[..t], &works[..w]);
+    if let Some(loaded) = fetch(rt, name, &mut works) {
+        let bytes = &works[..loaded.bytes()];
+        show_loaded(rt, area, Stored { name, bytes });
     }
 }
 
+// With the works' own names, or without: then with a table of none, and the standard names show.
 fn show_stored(rt: &HostRuntime, own: bool) {
     let mut name = [0u8; MOST_PATH];
     let n = argument(rt, 2, &mut name);
+    let name = Told { bytes: &name[..n] };
     let mut area = [0u8; LOAD_BYTES];
-    let fetched = fetch(rt, &name[..n], &mut area);
-    if !fetched.done {
+    let Some(loaded) = fetch(rt, name, &mut area) else {
         return;
-    }
-    let a = fetched.bytes;
+    };
+    let bytes = &area[..loaded.bytes()];
+    let area = Stored { name, bytes };
     if own {
-        show_named(rt, &name[..n], &area[..a]);
+        show_named(rt, area);
         return;
     }
-    let none = [0u8; CONTENTS_BYTES];
-    show_loaded(rt, &name[..n], &area[..a], b"", &none);
+    let none = Stored {
+        name: Told { bytes: b"" },
+        bytes: &[0u8; CONTENTS_BYTES],
+    };
+    show_loaded(rt, area, none);
 }
 
 // ---- names
 
 fn tell_bad_line(rt: &HostRuntime, line: u64) {
     let mut digits = [0u8; MOST_DIGITS];
-    let n = write_number(&mut digits, 0, line);
+    let mut page = Page::new(&mut digits, 0);
+    page.number(line);
+    let n = page.at;
     tell(
         &rt.stderr(),
         b"wickthrush: 17 bad name table: line ",
@@ -317,19 +311,21 @@ fn tell_bad_line(rt: &HostRuntime, line: u64) {
 // A list that is taken has at most 2,304 bytes (`taken-short`), so of one that is longer than the buffer a line within is refused.
 fn make_names(rt: &HostRuntime) {
     let mut list = io::buffer();
-    let loaded = read_input(&mut rt.stdin(), &mut list);
-    if loaded.failed() {
-        tell_refused(&rt.stderr(), b"standard input", loaded.why());
-        return;
-    }
-    let n = loaded.bytes();
+    let loaded = match read_input(&mut rt.stdin(), &mut list) {
+        Ok(loaded) => loaded,
+        Err(why) => {
+            let input = Told {
+                bytes: b"standard input",
+            };
+            tell_refused(&rt.stderr(), input, why);
+            return;
+        }
+    };
     let mut table = [0u8; MOST_TABLE];
-    let listed = make_table(&list[..n], &mut table);
-    if listed.line != 0 {
-        tell_bad_line(rt, listed.line);
-        return;
+    match make_table(&list[..loaded.bytes()], &mut table) {
+        Ok(bytes) => hand_out(rt, bytes, &table),
+        Err(refused) => tell_bad_line(rt, refused.line),
     }
-    hand_out(rt, listed.bytes, &table);
 }
 
 // ---- the program

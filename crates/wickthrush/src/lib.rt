@@ -1,4 +1,5 @@
-// What C calls: the calls of `cache`, `print` and `sheet`, with the answers as numbers. `include/wickthrush.h` declares them.
+// What C calls: the calls of `cache`, `print` and `sheet`, with the answers as numbers. `include/wickthrush.h` declares them; each is
+// a name of C's own, however alike they look.
 #![tactic(auto)]
 
 ghost use Rattle.std.specs.Prelude.{◌≡◌};
@@ -8,7 +9,7 @@ ghost use Rattle.print.specs.Print.{print_open_of, print_row_of};
 ghost use Rattle.sheet.specs.Sheet.{sheet_of};
 ghost use Rattle.wickthrush.specs.Numbers.{Returns, decided_of};
 
-use calls::number;
+use calls::{Numbered, role};
 use print::{print_open, print_row};
 use sheet::sheet;
 use written::Written;
@@ -17,7 +18,7 @@ use written::Written;
 pub extern "C" fn wickthrush_open(area: &mut [u8], roles: u64, state: u32) -> u32
     ensures { Returns (open_of area.old roles state) result area.new }
 {
-    number(cache::open(area, roles, state))
+    cache::open(area, roles, state).number()
 }
 
 #[unsafe(no_mangle)]
@@ -30,8 +31,7 @@ pub extern "C" fn wickthrush_event(
 ) -> u32
     ensures { Returns (event_of area.old permission kind number state) result area.new }
 {
-    // number is an argument here
-    calls::number(cache::event(area, permission, kind, number, state))
+    cache::event(area, permission, kind, number, state).number()
 }
 
 // `wickthrush_decided` of the header. C gets it by value, so that a caller who takes it for the answer does not compile.
@@ -46,11 +46,10 @@ pub struct Decided {
 pub extern "C" fn wickthrush_decide(area: &[u8], permission: u32, set: u64) -> Decided
     ensures { decided_of result ≡ decide_of area.now permission set }
 {
-    let d = cache::decide(area, permission, set);
-    let answer = d.answer;
+    let decided = cache::decide(area, permission, set);
     Decided {
-        answer: number(answer),
-        role: d.role as u32,
+        answer: decided.number(),
+        role: role(decided) as u32,
     }
 }
 
@@ -58,21 +57,21 @@ pub extern "C" fn wickthrush_decide(area: &[u8], permission: u32, set: u64) -> D
 pub extern "C" fn wickthrush_forget(area: &mut [u8], permission: u32) -> u32
     ensures { Returns (forget_of area.old permission) result area.new }
 {
-    number(cache::forget(area, permission))
+    cache::forget(area, permission).number()
 }
 
 #[unsafe(no_mangle)]
 pub extern "C" fn wickthrush_print_open(area: &[u8], out: &mut [u8]) -> Written
     ensures { Prints (print_open_of area.now out.old) result out.new }
 {
-    print_open(area, out)
+    Written::from(print_open(area, out))
 }
 
 #[unsafe(no_mangle)]
 pub extern "C" fn wickthrush_print_row(area: &[u8], row: u64, out: &mut [u8]) -> Written
     ensures { Prints (print_row_of area.now row out.old) result out.new }
 {
-    print_row(area, row, out)
+    Written::from(print_row(area, row, out))
 }
 
 // Both tables have one lifetime: a name is a part of one of them.
@@ -87,5 +86,5 @@ pub extern "C" fn wickthrush_sheet<'a>(
 ) -> Written
     ensures { Prints (sheet_of area.now works.now standard.now permission session out.old) result out.new }
 {
-    sheet(area, works, standard, permission, session, out)
+    Written::from(sheet(area, works, standard, permission, session, out))
 }

@@ -10,7 +10,7 @@ use native.Mathlib.Omega.{arith}
 use borrow.Author.Tests.{eq-eqb, ne_eqb}
 use lib.Bits.{bit_or, or_add_and, and_le_l, and_le_r}
 use lib.Dec.{eqb}
-use lib.ListN.{length, get_or, set, take, drop, replicate, length-replicate, length-set, length-take, length-drop}
+use lib.ListN.{length, get_or, set, take, drop, length-set, length-take, length-drop}
 use lib.Seq.{sets, set_comm, get_or-set_same, get_or-set_other, take-suc, take-add, drop-cons, get_or-take, get_or-drop, ext_get_or}
 use Rattle.words.specs.Words.{words, Spans, all_zero}
 use Rattle.words.proofs.Laws.{length-words}
@@ -93,31 +93,9 @@ drop-run n at k l h =
     ∙ ap (λ (j : ℕ). get_or l j 0) e
     ∙ sym (get_or-take (n - k) (drop (at + k) l) i 0 c ∙ get_or-drop (at + k) l i 0))
 
--- the words from number j - 1 on are the one there and those from number j on
-pub run-before : (ws : List ℕ) (at c j o : ℕ) → 0 < j → j ≤ c → at + c ≤ length ws → o ≡ get_or ws (at + j - 1) 0
-    → drop (j - 1) (take c (drop at ws)) ≡ o ∷ drop j (take c (drop at ws))
-run-before ws at c j o p h b here =
-    let e : j - 1 + 1 ≡ j = omega arith in
-    let f : at + (j - 1) ≡ at + j - 1 = omega arith in
-    rw (e, f) at (run_drop ws at c (j - 1) (omega arith) b) ∙ ap (λ (x : ℕ). x ∷ drop j (take c (drop at ws))) (sym here)
-
-pub replicate_more : (k : ℕ) → ◌≡◌ {A = List ℕ} (replicate (k + 1) 0) (replicate k 0 ++ 0 ∷ [])
-replicate_more k = rw add-one (go k)
-  where
-    go : (k : ℕ) → ◌≡◌ {A = List ℕ} (replicate (suc k) 0) (replicate k 0 ++ 0 ∷ [])
-    go zero = refl
-    go (suc k) = ap {B = List ℕ} (λ l. 0 ∷ l) (go k)
-
 -- ---- one turn of a loop
 
 module _ (l : List ℕ) (at k : ℕ) where
-  pub clear-more : (now : List ℕ) → now ≡ sets l at (replicate k 0) → set now (at + k) 0 ≡ sets l at (replicate (k + 1) 0)
-  clear-more now e =
-      ap (λ (m : List ℕ). set m (at + k) 0) e
-      ∙ ap (λ (n : ℕ). set (sets l at (replicate k 0)) (at + n) 0) (sym (length-replicate k 0))
-      ∙ sets_end l at (replicate k 0) 0
-      ∙ ap (sets l at) (sym (replicate_more k))
-
   pub down-more : (by : ℕ) (now : List ℕ) → at + by + k < length l → now ≡ sets l at (take k (drop (at + by) l))
       → set now (at + k) (get_or now (at + by + k) 0) ≡ sets l at (take (k + 1) (drop (at + by) l))
   down-more by now b e =

@@ -3,10 +3,12 @@
 --     OnGrounds m d o gs   the answer is the number of the first ground that holds, else 0; every answer but 0 writes nothing, no text has more
 --                          than m bytes, and the bytes behind it stay
 --     text o               the bytes that a call wrote
---     OneText              the contract allows one outcome
-use Rattle.std.specs.Prelude.{◌≡◌, List, ◌≢◌, ℕ, ◌≤◌, take, drop}
+--     OneText, OneResult   the contract allows one outcome, as C gets it and before
+use Rattle.std.specs.Prelude.{◌≡◌, List, ◌≢◌, ℕ, ◌≤◌, Result, take, drop}
 use Rattle.refusals.specs.Refusals.{Ground, Exactly}
 use Rattle.written.specs.Print.{Print, Prints}
+use Rattle.written.specs.Result.{written_of}
+use Rattle.written.specs.declared.Refusal.{Refusal}
 use Rattle.written.specs.declared.Written.{Written}
 
 abbrev pub IsWritten : ℕ → Type 0
@@ -23,3 +25,6 @@ text o = take o.bytes o.out
 
 abbrev pub OneText : Type 0
 OneText = (o : Print) (r s : Written) (e f : List ℕ) → Prints o r e → Prints o s f → (r ≡ s) × (e ≡ f)
+
+abbrev pub OneResult : Type 0
+OneResult = (o : Print) (r s : Result ℕ Refusal) (e f : List ℕ) → Prints o (written_of r) e → Prints o (written_of s) f → (r ≡ s) × (e ≡ f)

@@ -1,12 +1,35 @@
 // What a call that writes a text into a lent buffer gives.
 #![tactic(auto)]
 
-ghost use Rattle.std.specs.Prelude.{◌≡◌, ◌^◌, ◌<◌};
+ghost use Rattle.std.specs.Prelude.{◌≡◌};
+ghost use Rattle.written.specs.Result.{number_of, written_of};
 
-// Two refusals that more than one such call has.
-pub const BAD_AREA: u32 = 1;
+// Why nothing is written; `number_of` has the numbers.
+#[derive(Clone, Copy)]
+pub enum Refusal {
+    BadArea,
+    NoPermission,
+    UnknownRole,
+    ShortBuffer,
+    BadNameTable,
+    NoRow,
+}
 
-pub const SHORT_BUFFER: u32 = 16;
+// The number of a refusal: Rules, Answers.
+impl From<Refusal> for u32 {
+    ghost from_gives = { λ refusal n. n ≡ number_of refusal };
+
+    fn from(refusal: Refusal) -> u32 {
+        match refusal {
+            Refusal::BadArea => 1,
+            Refusal::NoPermission => 3,
+            Refusal::UnknownRole => 4,
+            Refusal::ShortBuffer => 16,
+            Refusal::BadNameTable => 17,
+            Refusal::NoRow => 18,
+        }
+    }
+}
 
 // `wickthrush_written` of the header: the answer's number, and how many bytes were written.
 #[repr(C)]
@@ -16,18 +39,17 @@ pub struct Written {
     pub bytes: u32,
 }
 
-pub fn refused(answer: u32) -> Written
-    ensures { (result.answer ≡ answer) × (result.bytes ≡ 0) }
-{
-    Written { answer, bytes: 0 }
-}
+// The number of bytes written, or why none were, as C gets it.
+impl From<Result<u32, Refusal>> for Written {
+    ghost from_gives = { λ ended written. written ≡ written_of ended };
 
-pub fn wrote(n: usize) -> Written
-    requires { n < 2 ^ 32 }
-    ensures { (result.answer ≡ 0) × (result.bytes ≡ n) }
-{
-    Written {
-        answer: 0,
-        bytes: n as u32,
+    fn from(ended: Result<u32, Refusal>) -> Written {
+        match ended {
+            Ok(bytes) => Written { answer: 0, bytes },
+            Err(refusal) => Written {
+                answer: u32::from(refusal),
+                bytes: 0,
+            },
+        }
     }
 }

@@ -8,7 +8,7 @@ use Rattle.meaning.specs.Events.{known}
 use Rattle.area.specs.State.{state_of}
 use Rattle.table.specs.Table.{Sound}
 use Rattle.calls.specs.Calls.{Out}
-use Rattle.calls.specs.Answers.{Gives}
+use Rattle.calls.specs.Answers.{kept_number, number_of, Gives}
 use Rattle.cache.specs.Here.{event_here}
 use Rattle.cache.proofs.Moving.{there-sound, there-known, event-there}
 use Rattle.cache.proofs.enter.Goals as goal
@@ -30,5 +30,5 @@ returns c =
     let e = c.args.event.happening in
     let g = c.args.event.state in
     let bytes : Bytes l = λ p. (c.slice_known-1.given p).fits in
-    subst (λ (o : Out). Gives o c.enter_row.result c.enter_row.new.a)
+    subst (λ (o : Out). Gives o (number_of kept_number c.enter_row.result) c.enter_row.new.a)
     (ap (λ (m : List ℕ). event_here m p e) c.move_on.ensures ∙ event-there l c.requires.0 bytes e g c.requires.2 c.requires.3 p) c.enter_row.ensures

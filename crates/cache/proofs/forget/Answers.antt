@@ -1,23 +1,20 @@
 -- `cache::forget` meets its contract. Assumes nothing.
-use mathlib.Core.Path.{sym, ◌∙◌}
-use native.Mathlib.Omega.{arith}
+use mathlib.Core.Path.{sym}
+use Rattle.std.proofs.lemmas.Result.{err_from_is_err_and}
 use Rattle.table.proofs.RowWords.{sound}
-use Rattle.cache.proofs.Calling.{is_true, is-valid, not_valid}
-use Rattle.cache.proofs.Fronts.{forget-1, forget-3, forget-go}
+use Rattle.calls.proofs.Numbers.{refused}
+use Rattle.cache.proofs.Calling.{is_true}
+use Rattle.cache.proofs.Fronts.{passed, forget-refused, forget-go}
 use Rattle.cache.proofs.forget.Goals as goal
 
-pub returns-then-not-check : goal.returns-then-not-check
-returns-then-not-check c =
-    forget-1 c.args.a.now c.args.p (sym c.check.ensures ∙ c.if-not-check.true)
-
-pub returns-then-p-eq0 : goal.returns-then-p-eq0
-returns-then-p-eq0 c =
-    forget-3 c.args.a.now c.args.p (sym c.check.ensures ∙ c.if-not-check.false) (not_valid c.args.p c.if-p-eq0.true)
+pub returns-in_err-about : goal.returns-in_err-about
+returns-in_err-about c =
+    let p = err_from_is_err_and c.from_residual.result c.from_residual.ensures.1 in
+    let r = c.in_err-about.field-0.0 in
+    rw (p.1, p.2) (forget-refused c.args.a.now c.args.p _ (refused r) c.in_err-about.ensures)
 
 pub forget_row-requires : goal.forget_row-requires
-forget_row-requires c =
-    sound c.args.a.now (is_true _ (sym c.check.ensures ∙ c.if-not-check.false))
+forget_row-requires c = sound c.args.a.now (is_true _ (passed c.args.a.now c.args.p (sym c.in_ok-about.ensures)).0)
 
 pub returns : goal.returns
-returns c =
-    forget-go c.args.a.now c.args.p _ (sym c.check.ensures ∙ c.if-not-check.false) (is-valid c.args.p c.if-p-eq0.false (omega arith)) c.forget_row.ensures
+returns c = let q = passed c.args.a.now c.args.p (sym c.in_ok-about.ensures) in forget-go c.args.a.now c.args.p _ q.0 q.1 c.forget_row.ensures

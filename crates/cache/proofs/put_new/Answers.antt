@@ -16,11 +16,9 @@ use Rattle.rows.specs.Stored.{row_of}
 use Rattle.rows.specs.declared.Row as value
 use Rattle.rows.proofs.Padded.{stored⇒row}
 use Rattle.table.specs.Table.{rows_in, Sound, found_for}
-use Rattle.table.specs.declared.Found.TheVariants.{Vacant}
-use Rattle.calls.specs.declared.Answer.{Answer}
-use Rattle.calls.specs.declared.Answer.TheVariants.{Recorded}
+use Rattle.std.specs.Prelude.{Err}
 use Rattle.calls.specs.Calls.{Out, stays}
-use Rattle.calls.specs.Answers.{number_of, Gives}
+use Rattle.calls.specs.Answers.{Gives}
 use Rattle.cache.specs.Fresh.{Fresh}
 use Rattle.roles.proofs.Tests.{T_true, T_false}
 use Rattle.cache.proofs.Places.{bytes-are}
@@ -33,7 +31,7 @@ use Rattle.cache.proofs.put_new.Goals as goal
 
 -- ---- the cases
 
-module _ (l : List ℕ) (s : Sound l) (p i : ℕ) (e : Happening) (w : value.Row) (f : found_for p (rows_in l) ≡ Vacant i) (h : Fresh e w) where
+module _ (l : List ℕ) (s : Sound l) (p i : ℕ) (e : Happening) (w : value.Row) (f : found_for p (rows_in l) ≡ Err i) (h : Fresh e w) where
   clear : contradicts e blank ≡ false
   clear = T_false (contradicts e blank) h.agrees
 
@@ -46,28 +44,28 @@ module _ (l : List ℕ) (s : Sound l) (p i : ℕ) (e : Happening) (w : value.Row
   empty : is_blank (row_for p (rows_in l)) ≡ true
   empty = ap is_blank (row-none l s p i f)
 
-  nothing : Bytes l → is_blank (row_of w) ≡ true → Gives (event_here l p e) Recorded l
+  nothing : Bytes l → is_blank (row_of w) ≡ true → Gives (event_here l p e) 0 l
   nothing bytes b =
       let q = sym (ap is_blank same) ∙ b in
-      gives (event_here l p e) Recorded l
+      gives (event_here l p e) 0 l
       (event-none l s p i f e ∙ event-recorded l (state_of l) p e blank clear (fits_in-blank (state_of l) p (step e blank) room q) ∙ ap (stays 0) (area-kept l s p i f (step e blank) q bytes))
 
   either : (b : Bool) → cond b (stays 7 l) (stays 8 l) ≡ stays (cond b 7 8) l
   either true = refl
   either false = refl
 
-  no_more : Bytes l → is_blank (row_of w) ≡ false → most_rows ≤ length (rows_in l) → (r : Answer) → number_of r ≡ cond (is_reply e) 7 8 → Gives (event_here l p e) r l
-  no_more bytes b m r q =
-      gives (event_here l p e) r l
+  no_more : Bytes l → is_blank (row_of w) ≡ false → most_rows ≤ length (rows_in l) → (a : ℕ) → a ≡ cond (is_reply e) 7 8 → Gives (event_here l p e) a l
+  no_more bytes b m a q =
+      gives (event_here l p e) a l
       (event-none l s p i f e
       ∙ event-unfit l (state_of l) p e blank clear (fits_in-none (state_of l) p (step e blank) room empty (sym (ap is_blank same) ∙ b) m)
       ∙ ap (λ (o : Out). cond (is_reply e) (stays 7 l) o) (ap (stays 8) (area-kept l s p i f blank refl bytes))
       ∙ either (is_reply e)
-      ∙ ap (λ (a : ℕ). stays a l) (sym q))
+      ∙ ap (λ (n : ℕ). stays n l) (sym q))
 
-  made : (m : List ℕ) → length (rows_in l) < most_rows → m ≡ area_of (with_row (state_of l) p (row_of w)) → Gives (event_here l p e) Recorded m
+  made : (m : List ℕ) → length (rows_in l) < most_rows → m ≡ area_of (with_row (state_of l) p (row_of w)) → Gives (event_here l p e) 0 m
   made m u q =
-      gives (event_here l p e) Recorded m
+      gives (event_here l p e) 0 m
       (event-none l s p i f e
       ∙ event-recorded l (state_of l) p e blank clear (fits_in-room (state_of l) p (step e blank) room u)
       ∙ ap (stays 0) (sym (q ∙ ap (λ (x : Row). area_of (with_row (state_of l) p x)) same)))
@@ -88,7 +86,7 @@ returns-then-rows_used-eq-MOST_ROWS c =
     let l = c.args.a.now in
     no_more l c.requires.0 c.args.p c.args.i c.args.e c.args.w c.requires.1 c.requires.2
     (λ p. (c.slice_known-1.given p).fits) (sym c.is_blank.ensures ∙ c.if-is_blank.false)
-    (omega (arith, c.rows_used.ensures, c.if-rows_used-eq-MOST_ROWS.true)) c.no_room.result c.no_room.ensures
+    (omega (arith, c.rows_used.ensures, c.if-rows_used-eq-MOST_ROWS.true)) _ c.no_room.ensures
 
 pub insert_at-requires : goal.insert_at-requires
 insert_at-requires c =

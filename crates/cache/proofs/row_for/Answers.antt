@@ -7,14 +7,14 @@ use Rattle.cache.proofs.row_for.Goals as goal
 
 pub row_at-requires : goal.row_at-requires
 row_at-requires c =
-    (c.requires, row_inside c.args.a.now c.requires c.args.p c.in-At.i (sym c.find.ensures ∙ c.in-At.is))
+    (c.requires, row_inside c.args.a.now c.requires c.args.p c.in-Ok.i (sym c.find.ensures ∙ c.in-Ok.is))
 
-pub returns-in-At : goal.returns-in-At
-returns-in-At c =
+pub returns-in-Ok : goal.returns-in-Ok
+returns-in-Ok c =
     c.row_at.ensures
-    ∙ ap (λ (w : Row). stored_row w) (row-there c.args.a.now c.requires c.args.p c.in-At.i (sym c.find.ensures ∙ c.in-At.is))
+    ∙ ap (λ (w : Row). stored_row w) (row-there c.args.a.now c.requires c.args.p c.in-Ok.i (sym c.find.ensures ∙ c.in-Ok.is))
 
-pub returns-in-Vacant : goal.returns-in-Vacant
-returns-in-Vacant c =
+pub returns-in-Err : goal.returns-in-Err
+returns-in-Err c =
     c.blank.ensures
-    ∙ sym (ap (λ (w : Row). stored_row w) (row-none c.args.a.now c.requires c.args.p _ (sym c.find.ensures ∙ c.in-Vacant.is)))
+    ∙ sym (ap (λ (w : Row). stored_row w) (row-none c.args.a.now c.requires c.args.p _ (sym c.find.ensures ∙ c.in-Err.is)))

@@ -8,44 +8,41 @@ use Rattle.roles.specs.Sets.{last_role}
 use Rattle.text.specs.Ascii.{space}
 use Rattle.text.specs.Number.{next_is, read_number}
 use Rattle.text.specs.Field.{number_field}
-use Rattle.text.proofs.Walks.{NumberThere, number_read, number-bad, number-here, byte_inside}
+use Rattle.text.proofs.Walks.{NumberThere, number_read, field-bad, number-here, byte_inside}
 use Rattle.listing.proofs.LineLaws.{line-bad, line-unspaced, line-spaced}
-use Rattle.listing.proofs.read_line.Goals.{In-Read, Else-not-byte_at}
+use Rattle.listing.proofs.read_line.Goals.{In_ok-role, Else-not-byte_at}
 use Rattle.listing.proofs.read_line.Goals as goal
 
 -- a role was read
-there : (c : In-Read) → NumberThere last_role c.args.line.now 0 c.in-Read.value c.in-Read.next
-there c = number_read last_role c.args.line.now 0 c.in-Read.value c.in-Read.next c.in-Read.ensures
+there : (c : In_ok-role) → NumberThere last_role c.args.line.now 0 c.in_ok-role.role c.in_ok-role.next
+there c = number_read last_role c.args.line.now 0 c.in_ok-role.role c.in_ok-role.next c.in_ok-role.ensures
 
 -- a space comes behind it
-spaced : (c : Else-not-byte_at) → next_is space (drop c.in-Read.next c.args.line.now) ≡ true
+spaced : (c : Else-not-byte_at) → next_is space (drop c.in_ok-role.next c.args.line.now) ≡ true
 spaced c = sym c.byte_at.ensures ∙ c.if-not-byte_at.false
 
-inside : (c : Else-not-byte_at) → c.in-Read.next < length c.args.line.now
-inside c = byte_inside space c.args.line.now c.in-Read.next (spaced c)
+inside : (c : Else-not-byte_at) → c.in_ok-role.next < length c.args.line.now
+inside c = byte_inside space c.args.line.now c.in_ok-role.next (spaced c)
 
-pub returns-in_default : goal.returns-in_default
-returns-in_default c =
+pub returns-in_err-role : goal.returns-in_err-role
+returns-in_err-role c =
     let line = c.args.line.now in
-    ap (number_field line) (sym (line-bad line (number-bad line (read_number last_role line) c.in_default.ensures)))
+    c.from_residual.ensures ∙ ap (number_field line) (sym (line-bad line (field-bad (λ v. v) line (read_number last_role line) c.in_err-role.ensures)))
 
 pub returns-then-not-byte_at : goal.returns-then-not-byte_at
-returns-then-not-byte_at c = ap (number_field c.args.line.now) (sym (line-unspaced (there (goal.at.returns-then-not-byte_at c).In-Read) (sym c.byte_at.ensures ∙ c.if-not-byte_at.true)))
+returns-then-not-byte_at c = ap (number_field c.args.line.now) (sym (line-unspaced (there (goal.at.returns-then-not-byte_at c).In_ok-role) (sym c.byte_at.ensures ∙ c.if-not-byte_at.true)))
 
 pub returns-then-not-is_length : goal.returns-then-not-is_length
 returns-then-not-is_length c =
     let a = goal.at.returns-then-not-is_length c in
-    ap (number_field c.args.line.now) (sym (line-spaced (there a.In-Read) false (spaced a.Else-not-byte_at) (sym c.if-not-is_length.true ∙ c.is_length.ensures)))
+    ap (number_field c.args.line.now) (sym (line-spaced (there a.In_ok-role) false (spaced a.Else-not-byte_at) (sym c.if-not-is_length.true ∙ c.is_length.ensures)))
 
 pub returns : goal.returns
 returns c =
     let a = goal.at.returns c in
     let i = inside a.Else-not-byte_at in
-    number-here c.args.line.now c.in-Read.value (c.in-Read.next + 1) (omega arith)
-    ∙ ap (number_field c.args.line.now) (sym (line-spaced (there a.In-Read) true (spaced a.Else-not-byte_at) (sym c.if-not-is_length.false ∙ c.is_length.ensures)))
-
-pub overflow_add-name : goal.overflow_add-name
-overflow_add-name c = let i = inside (goal.at.overflow_add-name c).Else-not-byte_at in omega arith
+    number-here c.args.line.now c.in_ok-role.role (c.in_ok-role.next + 1) (omega arith)
+    ∙ ap (number_field c.args.line.now) (sym (line-spaced (there a.In_ok-role) true (spaced a.Else-not-byte_at) (sym c.if-not-is_length.false ∙ c.is_length.ensures)))
 
 pub overflow_sub-line : goal.overflow_sub-line
 overflow_sub-line c = let i = inside (goal.at.overflow_sub-line c).Else-not-byte_at in omega arith

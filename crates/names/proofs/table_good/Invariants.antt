@@ -1,13 +1,9 @@
 use mathlib.Core.Path.{◌≡◌}
 use mathlib.Core.Bool.{true}
-use Prim.Native.Nat.{◌-◌, ◌≤◌}
+use Prim.Native.Nat.{◌≤◌}
 use lib.ListN.{length}
-use Rattle.roles.specs.Sets.{most_roles}
 use Rattle.names.specs.Names.{contents_bytes, good_pairs}
 use Rattle.names.proofs.table_good.Given as goal
 
 abbrev pub invariant-loop-r : goal.invariant-loop-r
-invariant-loop-r l = (l.r ≤ most_roles) × (contents_bytes ≤ length l.t) × (good_pairs l.r l.t ≡ true)
-
-abbrev pub decreases-loop-r : goal.decreases-loop-r
-decreases-loop-r l = most_roles - l.r
+invariant-loop-r l = (contents_bytes ≤ length l.t) × (good_pairs l.r l.t ≡ true)

@@ -1,5 +1,4 @@
 use mathlib.Core.Path.{◌≡◌}
-use Prim.Native.Nat.{◌-◌}
 use lib.ListN.{take, drop}
 use Rattle.words.specs.Words.{words}
 use Rattle.meaning.specs.Rows.{has_part}
@@ -7,6 +6,3 @@ use Rattle.opens.proofs.has_part.Given as goal
 
 abbrev pub invariant-loop-k : goal.invariant-loop-k
 invariant-loop-k l = has_part l.s.bits (drop l.k (take l.i (drop l.at (words l.a)))) ≡ has_part l.s.bits (take l.i (drop l.at (words l.a)))
-
-abbrev pub decreases-loop-k : goal.decreases-loop-k
-decreases-loop-k l = l.i - l.k

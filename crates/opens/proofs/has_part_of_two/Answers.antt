@@ -1,6 +1,6 @@
 -- `opens::has_part_of_two` meets its contract: the answer for the words not yet passed is the answer for all. Assumes nothing.
 use borrow.Author.Rules.{rules}
-use mathlib.Core.Path.{◌≡◌, refl, sym, ap, ap₂, ◌∙◌}
+use mathlib.Core.Path.{◌≡◌, sym, ap, ap₂, ◌∙◌}
 use mathlib.Core.Bool.{Bool, ◌||◌, or-true}
 use mathlib.Core.List.{List}
 use Prim.Native.Nat.{ℕ, ◌+◌, ◌<◌}
@@ -8,9 +8,8 @@ use native.Mathlib.Omega.{arith}
 use lib.ListN.{length, get_or, take, drop, length-take}
 use Rattle.words.specs.Words.{words}
 use Rattle.words.proofs.Laws.{length-words}
-use Rattle.words.proofs.Runs.{spans-again, run-word, run_long}
+use Rattle.words.proofs.Runs.{run-word, run_long}
 use Rattle.roles.specs.Sets.{part_of}
-use Rattle.roles.proofs.Naming.{is-part, is-no-part}
 use Rattle.meaning.specs.Lists.{any}
 use Rattle.meaning.proofs.Walks.{any-hit, any-miss, any-end}
 use Rattle.opens.proofs.TwoLaws.{part_of_either, two-parts}
@@ -40,22 +39,17 @@ module _ (c : After-is_part_of_either) where
   here : {t : Bool} → c.is_part_of_either.result ≡ t → part_of_either s.args.s.bits s.args.t.bits (get_or searched k 0) ≡ t
   here e =
       let b = long in
-      ap (part_of_either s.args.s.bits s.args.t.bits) (run-word ws s.args.at s.args.i k (search rules) (omega arith) ∙ sym c.get_word.ensures)
+      ap (part_of_either s.args.s.bits s.args.t.bits) (run-word ws s.args.at s.args.i k (search rules) (omega arith) ∙ sym c.set_at.ensures)
       ∙ sym c.is_part_of_either.ensures ∙ e
 
-pub returns-then-outside-eq-MOST_ROLES : goal.returns-then-outside-eq-MOST_ROLES
-returns-then-outside-eq-MOST_ROLES c =
+pub returns-then-is_part_of : goal.returns-then-is_part_of
+returns-then-is_part_of c =
     let ws = words c.args.a.now in
     let b = c.requires.0.enough in
     let earlier = any (part_of_either c.args.s.bits c.args.t.bits) (take c.args.i (drop c.args.at ws)) in
     sym (or-true earlier)
-    ∙ ap (λ (x : Bool). earlier || x) (sym (is-part _ _ (omega arith) c.outside.ensures c.if-outside-eq-MOST_ROLES.true))
+    ∙ ap (λ (x : Bool). earlier || x) (sym c.if-is_part_of.true ∙ c.is_part_of.ensures)
     ∙ two-parts c.args.s.bits c.args.t.bits ws c.args.at c.args.i (omega (arith, length-words c.args.a.now)) c.requires.1
-
-pub get_word-requires : goal.get_word-requires
-get_word-requires c =
-    let p = c.requires.0 in
-    spans-again p refl (let b = p.enough in omega arith)
 
 pub returns-then-is_part_of_either : goal.returns-then-is_part_of_either
 returns-then-is_part_of_either c =
@@ -73,11 +67,5 @@ returns c =
     ap₂ ◌||◌
     (any-end (part_of_either c.args.s.bits c.args.t.bits) (take c.args.i (drop c.args.at ws)) c.loop-k.k c.loop-k.invariant
     (omega (arith, length-take c.args.i (drop c.args.at ws))))
-    (sym (is-no-part _ _ (omega arith) c.outside.ensures c.if-outside-eq-MOST_ROLES.false))
+    (sym c.if-is_part_of.false ∙ c.is_part_of.ensures)
     ∙ two-parts c.args.s.bits c.args.t.bits ws c.args.at c.args.i (omega (arith, length-words c.args.a.now)) c.requires.1
-
-pub loop-k-init : goal.loop-k-init
-loop-k-init c = refl
-
-pub overflow_add-at : goal.overflow_add-at
-overflow_add-at c = let b = c.requires.0.enough in search rules

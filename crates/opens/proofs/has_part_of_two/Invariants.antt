@@ -1,5 +1,4 @@
 use mathlib.Core.Path.{◌≡◌}
-use Prim.Native.Nat.{◌-◌}
 use lib.ListN.{take, drop}
 use Rattle.words.specs.Words.{words}
 use Rattle.meaning.specs.Lists.{any}
@@ -9,6 +8,3 @@ use Rattle.opens.proofs.has_part_of_two.Given as goal
 abbrev pub invariant-loop-k : goal.invariant-loop-k
 invariant-loop-k l =
     any (part_of_either l.s.bits l.t.bits) (drop l.k (take l.i (drop l.at (words l.a)))) ≡ any (part_of_either l.s.bits l.t.bits) (take l.i (drop l.at (words l.a)))
-
-abbrev pub decreases-loop-k : goal.decreases-loop-k
-decreases-loop-k l = l.i - l.k

@@ -4,6 +4,3 @@ use Rattle.opens.proofs.opens_few.Given as goal
 
 abbrev pub invariant-loop-j : goal.invariant-loop-j
 invariant-loop-j l = PassedFrom (words l.a) l.at l.c l.initial.next l.j l.later.bits l.next
-
-abbrev pub decreases-loop-j : goal.decreases-loop-j
-decreases-loop-j l = l.j

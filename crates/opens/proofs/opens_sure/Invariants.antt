@@ -9,6 +9,3 @@ use Rattle.opens.proofs.opens_sure.Given as goal
 abbrev pub invariant-loop-j : goal.invariant-loop-j
 invariant-loop-j l =
     PassedFrom (words l.a) l.at l.c l.initial.next l.j l.later.bits l.next × (each_outside (drop l.j (take l.c (drop l.at (words l.a)))) ≡ true)
-
-abbrev pub decreases-loop-j : goal.decreases-loop-j
-decreases-loop-j l = l.j

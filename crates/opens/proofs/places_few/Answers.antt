@@ -16,7 +16,7 @@ beyond zero c p = omega arith
 beyond (suc n) c p = let r = beyond n c p.0 in let d = p.1 in omega arith
 
 pub returns-in-0 : goal.returns-in-0
-returns-in-0 c = let a = c.args in none-arm _ _ a.at (words a.a.now) c.in-0.is c.are_zero.ensures
+returns-in-0 c = let a = c.args in rw c.is_empty.ensures (none-arm _ _ a.at (words a.a.now) c.in-0.is c.are_zero.ensures)
 
 pub returns-in-1 : goal.returns-in-1
 returns-in-1 c = let a = c.args in few-arm _ _ a.at (words a.a.now) 1 (omega arith) c.are_zero-in-1.ensures c.opens_good.ensures c.in-1.is (omega arith)

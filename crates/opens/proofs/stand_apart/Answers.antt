@@ -1,13 +1,13 @@
 -- `opens::stand_apart` meets its contract: the sets passed stand apart. Assumes nothing.
 use borrow.Author.Rules.{rules}
-use mathlib.Core.Path.{◌≡◌, refl, sym, ap, ap₂, ◌∙◌}
+use mathlib.Core.Path.{◌≡◌, sym, ap, ap₂, ◌∙◌}
 use mathlib.Core.Bool.{Bool, true, false, not, ◌&&◌}
 use Prim.Native.Nat.{ℕ, ◌+◌, ◌<◌}
 use native.Mathlib.Omega.{arith}
 use lib.ListN.{length, get_or, take, drop}
 use Rattle.words.specs.Words.{words}
 use Rattle.words.proofs.Laws.{length-words}
-use Rattle.words.proofs.Runs.{spans-again, run_take}
+use Rattle.words.proofs.Runs.{run_take}
 use Rattle.meaning.specs.Rows.{has_part}
 use Rattle.opens.specs.Parts.{stand_apart}
 use Rattle.opens.proofs.OpensLaws.{apart-one, apart-fewer, apart-broken, apart-first}
@@ -20,7 +20,7 @@ apart_next : (c : After-has_part) (t : Bool) → let s = c.args in let i = c.loo
 apart_next c t e =
     let at = c.loop-i in
     let ws = words c.args.a.now in
-    let o = c.get_word in
+    let o = c.set_at in
     let h = c.requires.enough in
     let before = take at.i (drop c.args.at ws) in
     let b : c.args.at + at.i < length ws = omega (arith, length-words c.args.a.now) in
@@ -30,16 +30,6 @@ apart_next c t e =
 
 pub loop-i-init : goal.loop-i-init
 loop-i-init c = apart-first (drop c.args.at (words c.args.a.now))
-
-pub get_word-requires : goal.get_word-requires
-get_word-requires c =
-    let p = c.requires in
-    spans-again p refl (let h = p.enough in omega arith)
-
-pub has_part-requires : goal.has_part-requires
-has_part-requires c =
-    let p = c.requires in
-    spans-again p refl (let h = p.enough in omega arith)
 
 pub returns-then-has_part : goal.returns-then-has_part
 returns-then-has_part c =

@@ -1,6 +1,5 @@
 use mathlib.Core.Path.{◌≡◌}
 use mathlib.Core.Bool.{true}
-use Prim.Native.Nat.{◌-◌}
 use lib.ListN.{take, drop}
 use Rattle.words.specs.Words.{words}
 use Rattle.opens.specs.Parts.{stand_apart}
@@ -8,6 +7,3 @@ use Rattle.opens.proofs.stand_apart.Given as goal
 
 abbrev pub invariant-loop-i : goal.invariant-loop-i
 invariant-loop-i l = stand_apart (take l.i (drop l.at (words l.a))) ≡ true
-
-abbrev pub decreases-loop-i : goal.decreases-loop-i
-decreases-loop-i l = l.c - l.i

@@ -1,50 +1,45 @@
 -- `requests::permission_set` meets its contract. Assumes nothing.
-use mathlib.Core.Path.{◌≡◌, sym, ◌∙◌}
+use mathlib.Core.Path.{◌∙◌}
 use mathlib.Core.List.{List}
 use Prim.Native.Nat.{ℕ, ◌-◌}
 use native.Mathlib.Omega.{arith}
 use lib.ListN.{length, drop}
+use Rattle.std.specs.Prelude.{Option, Some, None}
+use Rattle.roles.specs.declared.RoleSet.{RoleSet}
 use Rattle.meaning.specs.Events.{last_permission}
-use Rattle.requests.specs.Fields.{set_then, permission_set, permission_set_field}
-use Rattle.requests.specs.declared.PermissionSet.{PermissionSet}
-use Rattle.requests.specs.declared.PermissionSet.TheVariants as set
+use Rattle.requests.specs.Fields.{set_then, permission_set}
 use Rattle.requests.proofs.FieldLaws.{number-spaced}
 use Rattle.requests.proofs.Made.{of_number_lem, of-set-place}
-use Rattle.requests.proofs.permission_set.Goals.{In-Read}
 use Rattle.requests.proofs.permission_set.Goals as goal
 
 -- what comes of a permission and the bytes behind it
-abbrev read_set : List ℕ → ℕ → List ℕ → PermissionSet
-read_set line p t = set_then set.Bad (λ s u. set.Read p s (length line - length u)) t
+abbrev behind : List ℕ → ℕ → List ℕ → Option (ℕ × RoleSet × ℕ)
+behind line p t = set_then None (λ s u. Some (p, s, length line - length u)) t
 
-abbrev line_of : In-Read → List ℕ
-line_of c = c.args.line.now
-
-abbrev permission-of : In-Read → ℕ
-permission-of c = c.in-Read.value
-
-abbrev next_of : In-Read → ℕ
-next_of c = c.in-Read.next
-
--- what the fields read as is what comes of the bytes behind the permission
-behind : (c : In-Read) → read_set (line_of c) (permission-of c) (drop (next_of c) (line_of c)) ≡ permission_set_field (line_of c) (drop 1 (line_of c))
+pub returns-in_err-permission : goal.returns-in_err-permission
 unfolding permission_set
-behind c = of_number_lem set.Bad (line_of c) (read_set (line_of c)) last_permission 1 (sym c.in-Read.is ∙ c.number_field.ensures)
-
-pub returns-in_default : goal.returns-in_default
-unfolding permission_set
-returns-in_default c =
+returns-in_err-permission c =
     let line = c.args.line.now in
-    of_number_lem set.Bad line (read_set line) last_permission 1 (sym c.in_default.is ∙ c.number_field.ensures)
+    c.from_residual.ensures ∙ of_number_lem None line (behind line) last_permission 1 c.in_err-permission.ensures
 
-pub returns-in_default-set_field : goal.returns-in_default-set_field
-returns-in_default-set_field c =
-    of-set-place set.Bad (line_of (goal.at.returns-in_default-set_field c).In-Read) (set.Read (permission-of (goal.at.returns-in_default-set_field c).In-Read)) (drop (next_of (goal.at.returns-in_default-set_field c).In-Read) (line_of (goal.at.returns-in_default-set_field c).In-Read)) (sym c.in_default-set_field.is ∙ c.set_field.ensures) ∙ behind (goal.at.returns-in_default-set_field c).In-Read
+pub returns-in_err-set : goal.returns-in_err-set
+unfolding permission_set
+returns-in_err-set c =
+    let line = c.args.line.now in
+    let p = c.in_ok-permission in
+    c.from_residual-in_err-set.ensures
+    ∙ of-set-place None line (λ x n. Some (p.permission, x, n)) (drop p.next line) c.in_err-set.ensures
+    ∙ of_number_lem None line (behind line) last_permission 1 p.ensures
 
 pub returns : goal.returns
+unfolding permission_set
 returns c =
-    of-set-place set.Bad (line_of (goal.at.returns c).In-Read) (set.Read (permission-of (goal.at.returns c).In-Read)) (drop (next_of (goal.at.returns c).In-Read) (line_of (goal.at.returns c).In-Read)) (sym c.in-Read-set_field.is ∙ c.set_field.ensures) ∙ behind (goal.at.returns c).In-Read
+    let line = c.args.line.now in
+    let p = c.in_ok-permission in
+    of-set-place None line (λ x n. Some (p.permission, x, n)) (drop p.next line) c.in_ok-set.ensures
+    ∙ of_number_lem None line (behind line) last_permission 1 p.ensures
 
 pub overflow_cast-result : goal.overflow_cast-result
 overflow_cast-result c =
-    omega (arith, (number-spaced (line_of (goal.at.overflow_cast-result c).In-Read) 1 last_permission (permission-of (goal.at.overflow_cast-result c).In-Read) (next_of (goal.at.overflow_cast-result c).In-Read) (sym c.in-Read.is ∙ c.number_field.ensures)).1)
+    let p = c.in_ok-permission in
+    omega (arith, (number-spaced c.args.line.now 1 last_permission p.permission p.next p.ensures).1)

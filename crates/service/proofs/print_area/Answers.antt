@@ -1,62 +1,76 @@
 -- `service::print_area` meets its contract. Before each turn the O line and the rows before `row` were handed over. Assumes nothing.
-use Rattle.std.proofs.Common.{◌≤◌, length, sym, ◌∙◌, arith}
-use Rattle.std.proofs.lemmas.Bool.{false≢true}
+use Rattle.std.proofs.Common.{◌+◌, ◌≤◌, length, refl, arith}
+use Rattle.std.proofs.lemmas.Result.{err_from_is_err_and}
 use Rattle.print.specs.Print.{least_room}
-use Rattle.service.proofs.Printing.{opened, row-printed, rows-ended, starts, goes_on, goes-printed, none-printed}
+use Rattle.service.proofs.Printing.{opened, row-printed, rows-ended, starts, goes_on, handed-bytes, goes-cut, goes-whole, none-printed, refused-number}
 use Rattle.service.proofs.print_area.Goals as goal
 
 -- ---- the O line
 
-pub returns-then-w-ne0 : goal.returns-then-w-ne0
-returns-then-w-ne0 g c = none-printed c.args.area.now c.args.out.now c.requires c.print_open-w.ensures c.if-w-ne0.true
+pub returns-in_default : goal.returns-in_default
+returns-in_default g c = none-printed c.args.area.now c.args.out.now c.requires c.in_default.ensures (refused-number c.in_default.field-0)
 
-pub write_first-sent-requires : goal.write_first-sent-requires
-write_first-sent-requires g c =
-    let o = opened c.args.area.now c.args.out.now c.requires c.print_open-w.ensures c.if-w-ne0.false in
-    omega (arith, o.2, c.requires, c.print_open-w.auto.out)
+pub write_first-requires : goal.write_first-requires
+write_first-requires g c =
+    let o = opened c.args.area.now c.args.out.now c.requires c.in-Ok.ensures refl in
+    omega (arith, o.2, c.requires, c.print_open.auto.out)
 
-pub handed_on-end-requires : goal.handed_on-end-requires
-handed_on-end-requires g c =
-    (c.write_first-sent.ensures, omega arith, (opened c.args.area.now c.args.out.now c.requires c.print_open-w.ensures c.if-w-ne0.false).2)
+pub handed_on-requires : goal.handed_on-requires
+handed_on-requires g c =
+    let o = opened c.args.area.now c.args.out.now c.requires c.in-Ok.ensures refl in
+    (omega (arith, o.2, c.write_first.ensures), omega arith)
 
-pub loop-end-init : goal.loop-end-init
-loop-end-init g c =
-    starts c.args.area.now c.args.out.now c.requires c.print_open-w.ensures c.if-w-ne0.false c.write_first-sent.result.all c.handed_on-end.ensures
+pub returns-in_err-bytes : goal.returns-in_err-bytes
+returns-in_err-bytes g c =
+    let p = err_from_is_err_and c.from_residual.result c.from_residual.ensures.1 in
+    rw (p.1, p.2)
+    (goes-cut _ (starts c.args.area.now c.args.out.now c.requires c.in-Ok.ensures refl (0 + c.write_first.result.bytes) (omega (arith, c.write_first.ensures)))
+    c.write_first.result.taken c.in_err-bytes.ensures)
+
+pub loop-row-init : goal.loop-row-init
+loop-row-init g c =
+    starts c.args.area.now c.args.out.now c.requires c.in-Ok.ensures refl c.in_ok-bytes.bytes
+    (omega (arith, handed-bytes c.write_first.result.taken (0 + c.write_first.result.bytes) c.in_ok-bytes.ensures, c.write_first.ensures))
 
 -- ---- a row
 
-pub returns-then-w-ne0-2 : goal.returns-then-w-ne0-2
-returns-then-w-ne0-2 g c =
-    let at = c.loop-end in
-    goes-printed at.invariant
-    (λ t. rows-ended c.args.area.now at.out at.row at.invariant.good (omega (arith, c.requires, c.print_open-w.auto.out, at.auto.out)) c.print_row-w.ensures c.if-w-ne0-2.true)
+pub returns-in_default-print_row : goal.returns-in_default-print_row
+returns-in_default-print_row g c =
+    let at = c.loop-row in
+    goes-whole at.bytes at.invariant
+    (rows-ended c.args.area.now at.out at.row at.invariant.good (omega (arith, c.requires, c.print_open.auto.out, at.auto.out)) c.in_default-print_row.ensures
+    (refused-number c.in_default-print_row.field-0))
 
-pub write_first-sent-requires-in-loop-end : goal.write_first-sent-requires-in-loop-end
-write_first-sent-requires-in-loop-end g c =
-    let at = c.loop-end in
-    let room : least_room ≤ length at.out = omega (arith, c.requires, c.print_open-w.auto.out, at.auto.out) in
-    let p = row-printed c.args.area.now at.out at.row at.invariant.good room c.print_row-w.ensures c.if-w-ne0-2.false in
-    omega (arith, p.2, room, c.print_row-w.auto.out)
+pub write_first-requires-in-loop-row : goal.write_first-requires-in-loop-row
+write_first-requires-in-loop-row g c =
+    let at = c.loop-row in
+    let room : least_room ≤ length at.out = omega (arith, c.requires, c.print_open.auto.out, at.auto.out) in
+    let p = row-printed c.args.area.now at.out at.row at.invariant.good room c.in-Ok-print_row.ensures refl in
+    omega (arith, p.2, room, c.print_row.auto.out)
 
-pub handed_on-end-requires-in-loop-end : goal.handed_on-end-requires-in-loop-end
-handed_on-end-requires-in-loop-end g c =
-    let at = c.loop-end in
-    let room : least_room ≤ length at.out = omega (arith, c.requires, c.print_open-w.auto.out, at.auto.out) in
-    let p = row-printed c.args.area.now at.out at.row at.invariant.good room c.print_row-w.ensures c.if-w-ne0-2.false in
-    (c.write_first-sent-in-loop-end.ensures, omega (arith, p.0, at.invariant.most, at.invariant.few), p.2)
+pub handed_on-requires-in-loop-row : goal.handed_on-requires-in-loop-row
+handed_on-requires-in-loop-row g c =
+    let at = c.loop-row in
+    let room : least_room ≤ length at.out = omega (arith, c.requires, c.print_open.auto.out, at.auto.out) in
+    let p = row-printed c.args.area.now at.out at.row at.invariant.good room c.in-Ok-print_row.ensures refl in
+    (omega (arith, p.2, c.write_first-in-loop-row.ensures), omega (arith, p.0, at.invariant.most, at.invariant.few))
 
-pub loop-end-smaller : goal.loop-end-smaller
-loop-end-smaller g c =
-    let at = c.loop-end in
-    let room : least_room ≤ length at.out = omega (arith, c.requires, c.print_open-w.auto.out, at.auto.out) in
-    let p = row-printed c.args.area.now at.out at.row at.invariant.good room c.print_row-w.ensures c.if-w-ne0-2.false in
-    omega (arith, p.0)
+pub returns-in_err-bytes-2 : goal.returns-in_err-bytes-2
+returns-in_err-bytes-2 g c =
+    let at = c.loop-row in
+    let p = err_from_is_err_and c.from_residual-in_err-bytes-2.result c.from_residual-in_err-bytes-2.ensures.1 in
+    rw (p.1, p.2)
+    (goes-cut _
+    (goes_on c.args.area.now at.out at.row at.invariant (omega (arith, c.requires, c.print_open.auto.out, at.auto.out)) c.in-Ok-print_row.ensures refl
+    (at.bytes + c.write_first-in-loop-row.result.bytes) (omega (arith, c.write_first-in-loop-row.ensures)))
+    c.write_first-in-loop-row.result.taken c.in_err-bytes-2.ensures)
 
-pub loop-end-preserved : goal.loop-end-preserved
-loop-end-preserved g c =
-    let at = c.loop-end in
-    goes_on c.args.area.now at.out at.row at.invariant (omega (arith, c.requires, c.print_open-w.auto.out, at.auto.out)) c.print_row-w.ensures c.if-w-ne0-2.false
-    c.write_first-sent-in-loop-end.result.all c.handed_on-end-in-loop-end.ensures
+pub loop-row-preserved : goal.loop-row-preserved
+loop-row-preserved g c =
+    let at = c.loop-row in
+    goes_on c.args.area.now at.out at.row at.invariant (omega (arith, c.requires, c.print_open.auto.out, at.auto.out)) c.in-Ok-print_row.ensures refl
+    c.in_ok-bytes-2.bytes
+    (omega (arith, handed-bytes c.write_first-in-loop-row.result.taken (at.bytes + c.write_first-in-loop-row.result.bytes) c.in_ok-bytes-2.ensures, c.write_first-in-loop-row.ensures))
 
 pub returns : goal.returns
-returns g c = goes-printed c.loop-end.invariant (λ t. absurd (false≢true (sym c.loop-end-test.false ∙ t)))
+returns g c = goes-whole c.loop-row.bytes c.loop-row.invariant (omega (arith, c.loop-row.invariant.most, c.loop-row-test.false))

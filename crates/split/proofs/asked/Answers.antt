@@ -9,6 +9,3 @@ returns-then-is_empty c =
     let a = c.args in
     c.said_whole.ensures
     ∙ ap (λ (h : Held). said (held_all h a.rest.now)) (sym (none_only _ (sym c.is_empty.ensures ∙ c.if-is_empty.true)))
-
-pub returns : goal.returns
-returns c = c.said.ensures ∙ ap said c.then.ensures

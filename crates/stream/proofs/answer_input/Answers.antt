@@ -1,47 +1,41 @@
 -- `stream::answer_input` meets its contract: each turn is a move, or the last. Assumes nothing.
-use Rattle.std.proofs.Common.{◌≡◌, ◌≤◌, ◌||◌, Bool, true, false, List, ℕ, length, refl, sym, true≢false, arith}
-use Rattle.stream.specs.declared.Flow.{Flow}
-use Rattle.stream.specs.Turns.{Within, Busy}
+use Rattle.std.proofs.Common.{◌≡◌, Bool, true, false, not, ℕ, refl, sym, ◌∙◌, subst, true≢false, arith}
+use denote.Enum.Bare.{sameb}
+use Rattle.stream.specs.contracts.Stand.{the_type}
+use Rattle.stream.specs.declared.Stand.{Stand}
+use Rattle.stream.specs.declared.Stand.TheVariants.{Running, Failed, Done}
+use Rattle.stream.specs.Moves.{most_turns, Ran}
 use Rattle.stream.proofs.Going.{start-goes, turn-goes, goes-ran}
 use Rattle.stream.proofs.answer_input.Goals as goal
 
--- the loop's second test
-stopped : (done failed : Bool) → (done || failed) ≡ true → done ≡ false → failed ≡ false → ⊥
-stopped true b s d f = true≢false d
-stopped false true s d f = true≢false f
-stopped false false s d f = true≢false (sym s)
+-- the loop's test
+running : (s : Stand) {b : Bool} → b ≡ not (sameb the_type s Running) → b ≡ false → s ≡ Running
+running Running e f = refl
+running Failed e f = absurd (true≢false (sym e ∙ f))
+running Done e f = absurd (true≢false (sym e ∙ f))
 
-busy : (f : Flow) (bs : List ℕ) → Within f bs → 1 ≤ length bs → (f.done || f.failed) ≡ false → Busy f bs
-busy f bs w n s = let both = go f.done f.failed s in record { within = w; some = n; sound = both.1; undone = both.0 }
-  where
-    go : (done failed : Bool) → (done || failed) ≡ false → (done ≡ false) × (failed ≡ false)
-    go true b s = absurd (true≢false s)
-    go false true s = absurd (true≢false s)
-    go false false s = (refl, refl)
+stopped : (s : Stand) {b : Bool} → b ≡ not (sameb the_type s Running) → b ≡ true → ¬ (s ≡ Running)
+stopped Running e t r = true≢false (sym t ∙ e)
+stopped Failed e t r = cc
+stopped Done e t r = cc
 
 pub loop-turns-init : goal.loop-turns-init
-loop-turns-init g c = (start-goes c.start.result c.args.area.now c.args.piece.now c.start.ensures, omega arith)
-
-pub turn-flow-requires : goal.turn-flow-requires
-turn-flow-requires g c =
-    let at = c.loop-turns in
-    busy at.flow at.piece at.invariant.0.within (omega (arith, at.auto.piece, c.requires.0)) c.if-not-flow.true
+loop-turns-init g c = start-goes c.start.result c.args.area.now c.args.piece.now c.start.ensures
 
 pub loop-turns-preserved : goal.loop-turns-preserved
 loop-turns-preserved g c =
-    let at = c.loop-turns in (
-      turn-goes at.turns at.flow at.area at.piece
-          (busy at.flow at.piece at.invariant.0.within (omega (arith, at.auto.piece, c.requires.0)) c.if-not-flow.true) at.invariant.0
-          at.out (omega (arith, at.auto.out, c.requires.1)) _ _ _ _ c.turn-flow.ensures,
-      omega (arith, c.loop-turns-test.true),
-    )
-
-pub returns-else-not-flow : goal.returns-else-not-flow
-returns-else-not-flow g c =
     let at = c.loop-turns in
-    goes-ran at.turns at.flow at.area at.piece (λ d f. absurd (stopped at.flow.done at.flow.failed c.if-not-flow.false d f)) at.invariant.0
+    turn-goes at.turns at.flow at.area at.piece
+    (record { within = at.invariant.within; some = omega (arith, at.auto.piece, c.requires.0); running = running at.flow.stand c.ne.ensures c.if-ne.false }) at.invariant
+    at.out (omega (arith, at.auto.out, c.requires.1)) _ _ _ _ c.turn-flow.ensures
 
-pub returns-after-loop-turns : goal.returns-after-loop-turns
-returns-after-loop-turns g c =
+pub returns-then-ne : goal.returns-then-ne
+returns-then-ne g c =
     let at = c.loop-turns in
-    goes-ran at.turns at.flow at.area at.piece (λ d f. omega (arith, c.loop-turns-test.false, at.invariant.1)) at.invariant.0
+    goes-ran at.turns at.flow at.area at.piece (λ r. absurd (stopped at.flow.stand c.ne.ensures c.if-ne.true r)) at.invariant
+
+pub returns : goal.returns
+returns g c =
+    let at = c.loop-turns in
+    let all : at.turns ≡ most_turns = omega (arith, at.auto.turns-end, c.loop-turns-test.false) in
+    subst (λ (n : ℕ). Ran c.args.area.now n at.flow at.area at.piece) all (goes-ran at.turns at.flow at.area at.piece (λ r. all) at.invariant)

@@ -1,10 +1,7 @@
 -- `text::byte_at` meets its contract. Assumes nothing.
-use borrow.Author.Rules.{rules}
-use Rattle.text.proofs.Walks.{byte-there, byte_past}
+use mathlib.Core.Path.{refl, ◌∙◌}
+use Rattle.text.proofs.Walks.{byte-lent}
 use Rattle.text.proofs.byte_at.Goals as goal
 
-pub returns-then-at-line : goal.returns-then-at-line
-returns-then-at-line c = let a = c.args in byte-there a.b a.line.now a.at (search rules)
-
-pub returns-else-at-line : goal.returns-else-at-line
-returns-else-at-line c = let a = c.args in byte_past a.b a.line.now a.at (search rules)
+pub returns : goal.returns
+returns c = let a = c.args in c.eq.ensures ∙ byte-lent a.b a.line.now a.at c.get.result _ c.get.ensures.lookup refl

@@ -4,15 +4,7 @@ use Rattle.wall.proofs.Sheets.{sheet-inside, sheet-refused}
 use Rattle.wall.proofs.print_sheet.Goals as goal
 
 pub hand_out-requires : goal.hand_out-requires
-hand_out-requires c =
-    let t = c in
-    let w = t in
-    omega (arith, sheet-inside _ _ _ _ _ w.show.ensures _ _ t.in-Told.is)
+hand_out-requires c = omega (arith, sheet-inside _ _ _ _ _ _ c.in-Ok.ensures, c.large_buffer-out.ensures)
 
 pub tell_refusal-requires : goal.tell_refusal-requires
-tell_refusal-requires c =
-    let t = c in
-    let w = t in
-    let b = w in
-    let s = b in
-    (sheet-refused _ _ _ _ _ w.show.ensures _ _ t.in-Told.is (omega (arith, b.large_buffer-out.ensures)) c.if-answer-eq0.false, s.requires.0, s.requires.1, s.requires.3)
+tell_refusal-requires c = rw c.in-Err-Refused.field-0-is (sheet-refused _ _ _ _ _ _ (rw c.in-Err-Refused.field-0-is at c.in-Err-Refused.ensures) (omega (arith, c.large_buffer-out.ensures)))

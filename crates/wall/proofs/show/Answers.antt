@@ -1,40 +1,23 @@
 -- `wall::show` meets its contract. Assumes nothing.
-use mathlib.Core.Path.{sym, ◌∙◌}
 use native.Mathlib.Omega.{arith}
 use Rattle.wall.proofs.Arguments.{permission-small}
-use Rattle.wall.proofs.Showing.{permission-unread, set-unread, sheet-shown}
+use Rattle.wall.proofs.Showing.{permission-unread, set-unread, mapped-shown}
 use Rattle.wall.proofs.show.Goals as goal
 
 pub returns-in_default : goal.returns-in_default
 returns-in_default c =
-    let r = c in
-    let a = r.args in
-    permission-unread a.area.now a.works.now a.permission.now a.set.now a.out.now (sym c.in_default.is ∙ r.read_permission.ensures)
+    let a = c.args in
+    permission-unread a.area.now a.works.now a.permission.now a.set.now a.out.now c.in_default.ensures
 
 pub returns-in_default-read_session : goal.returns-in_default-read_session
 returns-in_default-read_session c =
-    let r = c in
-    let v = r in
-    let q = v in
-    let a = q.args in
-    set-unread a.area.now a.works.now a.permission.now a.set.now a.out.now _ _
-    (sym v.in-Read.is ∙ q.read_permission.ensures) (sym c.in_default-read_session.is ∙ r.read_session.ensures)
+    let a = c.args in
+    set-unread a.area.now a.works.now a.permission.now a.set.now a.out.now _ _ c.in-Some.ensures c.in_default-read_session.ensures
 
 pub overflow_cast-value : goal.overflow_cast-value
-overflow_cast-value c =
-    let v = c in
-    let q = v in
-    omega (arith, permission-small _ _ _ (sym v.in-Read.is ∙ q.read_permission.ensures))
+overflow_cast-value c = omega (arith, permission-small _ _ _ c.in-Some.ensures)
 
 pub returns : goal.returns
 returns c =
-    let t = c in
-    let s = t in
-    let r = s in
-    let v = r in
-    let q = v in
-    let k = q in
-    let a = k.args in
-    sheet-shown a.area.now a.works.now a.permission.now a.set.now a.out.now _ _
-    (sym v.in-Read.is ∙ q.read_permission.ensures) _ _ (sym s.in-Read-read_session.is ∙ r.read_session.ensures)
-    (rw k.requires at t.sheet-w.ensures)
+    let a = c.args in
+    mapped-shown a.area.now a.works.now a.permission.now a.set.now a.out.now _ _ c.in-Some.ensures _ _ c.in-Some-read_session.ensures c.sheet.result c.map_err.result (rw c.requires at c.sheet.ensures) c.map_err.ensures.cases

@@ -1,11 +1,11 @@
-use Rattle.std.proofs.Common.{◌≡◌, ◌-◌}
-use Rattle.area.specs.Layout.{most_rows}
+use Rattle.std.proofs.Common.{◌-◌, ◌≡◌, length}
+use Rattle.walker.specs.Walk.{walked}
 use Rattle.answers.proofs.ShowLaws.{Partly}
 use Rattle.answers.proofs.show.walk.Given as goal
 
 -- what is shown from the walker's number on, is shown in all
-abbrev pub invariant-loop-s : goal.invariant-loop-s
-invariant-loop-s l = (l.w.area.now ≡ l.initial.w.area.now) × (l.w.next ≡ l.s.row) × Partly l.initial.w.area.now l.initial.w.next l.at l.initial.out l.s l.out
+abbrev pub invariant-loop-page : goal.invariant-loop-page
+invariant-loop-page l = (l.page.out.ghost_name ≡ l.initial.page.out.ghost_name) × Partly l.fn.walker l.at l.fn.out l.walker l.page.at l.page.out.now
 
-abbrev pub decreases-loop-s : goal.decreases-loop-s
-decreases-loop-s l = most_rows - l.s.row
+abbrev pub decreases-loop-page : goal.decreases-loop-page
+decreases-loop-page l = length (walked l.walker.area.now) - l.walker.next

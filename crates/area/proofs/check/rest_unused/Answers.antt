@@ -1,9 +1,8 @@
 -- `check::rest_unused` meets its contract: the answer for the rows not yet passed is the answer for all. Assumes nothing.
-use borrow.Author.Rules.{rules}
-use mathlib.Core.Path.{◌≡◌, refl, sym, ap, ◌∙◌}
+use mathlib.Core.Path.{◌≡◌, sym, ap, ◌∙◌, subst}
 use mathlib.Core.Bool.{true, false}
 use mathlib.Core.List.{List}
-use Prim.Native.Nat.{ℕ, ◌+◌, ◌-◌, ◌≤◌}
+use Prim.Native.Nat.{ℕ, ◌+◌, ◌-◌, ◌*◌, ◌≤◌}
 use native.Mathlib.Omega.{arith}
 use Rattle.words.specs.Words.{words, all_zero}
 use Rattle.area.specs.Layout.{most_rows}
@@ -32,31 +31,26 @@ module _ (ws : List ℕ) (used i : ℕ) (p : Passed ws used i) where
 
 pub returns-then-not-are_unused : goal.returns-then-not-are_unused
 returns-then-not-are_unused c =
-    let at = c.loop-i in
-    broken (words c.args.a.now) c.args.used at.i at.invariant stride (search rules) (sym c.are_unused.ensures ∙ c.if-not-are_unused.true)
+    let l = c.loop-k in
+    broken (words c.args.a.now) c.args.used (c.args.used + l.k * 8) l.invariant stride (omega arith) (sym c.are_unused.ensures ∙ c.if-not-are_unused.true)
 
-pub loop-i-preserved : goal.loop-i-preserved
-loop-i-preserved c =
-    let at = c.loop-i in
-    more (words c.args.a.now) c.args.used at.i at.invariant stride (search rules) (sym c.are_unused.ensures ∙ c.if-not-are_unused.false)
+pub loop-k-preserved : goal.loop-k-preserved
+loop-k-preserved c =
+    let l = c.loop-k in
+    let used = c.args.used in
+    let next : used + l.k * 8 + stride ≡ used + (l.k + 1) * 8 = omega arith in
+    subst (Passed (words c.args.a.now) used) next
+    (more (words c.args.a.now) used (used + l.k * 8) l.invariant stride (omega arith) (sym c.are_unused.ensures ∙ c.if-not-are_unused.false))
 
 pub returns-then-not-are_unused-2 : goal.returns-then-not-are_unused-2
 returns-then-not-are_unused-2 c =
-    let at = c.loop-i-2 in
-    broken (words c.args.a.now) c.args.used at.i at.invariant 1 (search rules) (sym c.are_unused-in-loop-i-2.ensures ∙ c.if-not-are_unused-2.true)
+    let l = c.loop-i in
+    broken (words c.args.a.now) c.args.used l.i l.invariant 1 (omega arith) (sym c.are_unused-in-loop-i.ensures ∙ c.if-not-are_unused-2.true)
 
-pub loop-i-2-preserved : goal.loop-i-2-preserved
-loop-i-2-preserved c =
-    let at = c.loop-i-2 in
-    more (words c.args.a.now) c.args.used at.i at.invariant 1 (search rules) (sym c.are_unused-in-loop-i-2.ensures ∙ c.if-not-are_unused-2.false)
+pub loop-i-preserved : goal.loop-i-preserved
+loop-i-preserved c =
+    let l = c.loop-i in
+    more (words c.args.a.now) c.args.used l.i l.invariant 1 (omega arith) (sym c.are_unused-in-loop-i.ensures ∙ c.if-not-are_unused-2.false)
 
 pub returns : goal.returns
-returns c =
-    let at = c.loop-i-2 in
-    all-passed (words c.args.a.now) c.args.used at.i at.invariant (search rules)
-
-pub loop-i-init : goal.loop-i-init
-loop-i-init c = (search rules, refl)
-
-pub loop-i-2-init : goal.loop-i-2-init
-loop-i-2-init c = c.loop-i.invariant
+returns c = let l = c.loop-i in all-passed (words c.args.a.now) c.args.used l.i l.invariant (omega arith)

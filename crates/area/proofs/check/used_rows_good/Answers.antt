@@ -1,11 +1,11 @@
 -- `check::used_rows_good` meets its contract: the rows passed are good, `last` is the permission before. Assumes nothing.
 use borrow.Author.Rules.{rules}
-use mathlib.Core.Path.{◌≡◌, refl, sym, ◌∙◌, subst⁻¹}
+use mathlib.Core.Path.{◌≡◌, refl, sym, ◌∙◌}
 use mathlib.Core.Bool.{Bool, true, false, ◌&&◌}
 use mathlib.Core.List.{List}
-use Prim.Native.Nat.{ℕ, ◌+◌, ◌*◌, ◌≤◌, ◌<◌}
+use Prim.Native.Nat.{ℕ, ◌+◌, ◌*◌, ◌<◌}
 use native.Mathlib.Omega.{arith}
-use lib.Dec.{T, ltb, leb, leb→le}
+use lib.Dec.{ltb, leb}
 use lib.ListN.{take, drop}
 use Rattle.words.specs.Words.{words}
 use Rattle.meaning.specs.Rows.{most_opens}
@@ -13,7 +13,7 @@ use Rattle.opens.specs.Opens.{body_good, few_opens}
 use Rattle.opens.proofs.Halves.{half-fails, halves-pass}
 use Rattle.area.specs.Layout.{most_rows, body_words, bodies_at, permission_before, each_below, good_row_at}
 use Rattle.area.specs.Parts.{good_but_wide}
-use Rattle.area.proofs.CheckLaws.{area-spans, permission-word, row_made, each_more, each-broken, before_more, rows_made, row-fails}
+use Rattle.area.proofs.CheckLaws.{permission-word, row_made, each_more, each-broken, before_more, rows_made, row-fails}
 use Rattle.area.proofs.check.used_rows_good.Goals.{After-struct_known-in-loop-i-1}
 use Rattle.area.proofs.check.used_rows_good.Goals as goal
 
@@ -57,15 +57,6 @@ module _ (c : After-struct_known-in-loop-i-1) where
   fails : good_but_wide ws i ≡ false → false ≡ each_below start.args.used (good_row_at ws)
   fails e = each-broken (good_row_at ws) i start.args.used used-row (row-fails ws i e)
 
-second : (x y z : Bool) → ((x && y) && z) ≡ true → T y
-second true true z e = tt
-second true false z e = subst⁻¹ T e tt
-second false y z e = absurd (subst⁻¹ T e tt)
-
--- what passes the first tests has at most 15 open sets
-few-enough : (c : After-struct_known-in-loop-i-1) → first c ≡ true → count c ≤ most_opens
-few-enough c e = leb→le (count c) most_opens (second (ltb c.loop-i.last c.get_word-p.result) (leb (count c) most_opens) (leb (denied c) (start c).args.all.bits) e)
-
 pub loop-i-init : goal.loop-i-init
 unfolding permission_before
 loop-i-init c = search rules
@@ -73,17 +64,9 @@ loop-i-init c = search rules
 pub returns-then-not-ok : goal.returns-then-not-ok
 returns-then-not-ok c = fails (goal.at.returns-then-not-ok c).After-struct_known-in-loop-i-1 (sym (made (goal.at.returns-then-not-ok c).After-struct_known-in-loop-i-1 false c.if-not-ok.true))
 
-pub places_few-requires : goal.places_few-requires
-places_few-requires c = let h = row (goal.at.places_few-requires c).After-struct_known-in-loop-i-1 in area-spans _ _ (start (goal.at.places_few-requires c).After-struct_known-in-loop-i-1).requires.0 (omega arith)
-
 pub returns-then-not-places_few : goal.returns-then-not-places_few
 returns-then-not-places_few c =
     fails (goal.at.returns-then-not-places_few c).After-struct_known-in-loop-i-1 (sym (made (goal.at.returns-then-not-places_few c).After-struct_known-in-loop-i-1 true c.if-not-ok.false) ∙ half-fails (ltb few_opens (count (goal.at.returns-then-not-places_few c).After-struct_known-in-loop-i-1)) (good (goal.at.returns-then-not-places_few c).After-struct_known-in-loop-i-1) (sym c.if-not-places_few.true ∙ c.places_few.ensures))
-
-pub places_many-requires : goal.places_many-requires
-places_many-requires c =
-    let h = row (goal.at.places_many-requires c).After-struct_known-in-loop-i-1 in
-    (area-spans _ _ (start (goal.at.places_many-requires c).After-struct_known-in-loop-i-1).requires.0 (omega arith), few-enough (goal.at.places_many-requires c).After-struct_known-in-loop-i-1 c.if-not-ok.false)
 
 pub returns-then-not-places_many : goal.returns-then-not-places_many
 returns-then-not-places_many c =
@@ -103,12 +86,3 @@ returns c =
     let at = c.loop-i in
     let e : at.i ≡ c.args.used = omega arith in
     rw e at (rows_made (words c.args.a.now) at.i at.last at.invariant.2 at.invariant.1)
-
-pub get_word-p-requires : goal.get_word-p-requires
-get_word-p-requires c = area-spans _ _ c.requires.0 (search rules)
-
-pub get_word-count-requires : goal.get_word-count-requires
-get_word-count-requires c = area-spans _ _ c.requires.0 (search rules)
-
-pub get_word-requires : goal.get_word-requires
-get_word-requires c = area-spans _ _ c.requires.0 (search rules)

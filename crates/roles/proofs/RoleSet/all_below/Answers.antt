@@ -1,8 +1,7 @@
 -- `RoleSet::all_below` meets its contract. Assumes nothing.
-use mathlib.Core.Path.{sym, ap, subst⁻¹, ◌∙◌}
-use Prim.Native.Nat.{ℕ, ◌-◌, ◌≤◌}
+use mathlib.Core.Path.{sym, ap, ◌∙◌}
+use Prim.Native.Nat.{ℕ, ◌-◌}
 use native.Mathlib.Nat.{le_of_lt}
-use lib.Pow.{pow_pos}
 use Rattle.roles.specs.Sets.{all_below}
 use Rattle.roles.proofs.Laws.{below64-all_below, below64-all}
 use Rattle.roles.proofs.Shift.{shl_one}
@@ -11,9 +10,6 @@ use Rattle.roles.proofs.RoleSet.all_below.Goals as goal
 pub returns-then-n-ge-MOST_ROLES : goal.returns-then-n-ge-MOST_ROLES
 unfolding all_below
 returns-then-n-ge-MOST_ROLES c = sym (below64-all c.args.n c.if-n-ge-MOST_ROLES.true)
-
-pub overflow_sub-result : goal.overflow_sub-result
-overflow_sub-result c = subst⁻¹ (λ (x : ℕ). 1 ≤ x) (shl_one c.args.n c.if-n-ge-MOST_ROLES.false) (pow_pos c.args.n)
 
 pub returns : goal.returns
 unfolding all_below
